@@ -1,0 +1,157 @@
+-- The laws of weighted sums: linear in the values, within the range of the values that count, near where the values are near, and blind to a value whose weight is 0.
+-- Callers cite these and do not unfold `weightedSum`. `Forall₂` (mathlib) pairs weights with values, or values with values, term by term.
+use mathlib.Core.Path.{_≡_, refl, sym, _∙_, ap, subst}
+use mathlib.Core.Logic.{_⊎_, inl, inr, ⊎-elim}
+use mathlib.Core.List.{List, [], _∷_, map, zipWith, Forall₂, Forall₂·nil, Forall₂·cons}
+use Prim.Native.Nat.{ℕ, zero, suc, _+_, _*_, _≤_, _<_, zero-le}
+use native.Mathlib.Nat.{le-trans, le-refl, add-le-add, mul-le-mul, mul-le-mul-left}
+use native.Mathlib.Omega.{arith}
+use lib.ListN.{length, getD, drop, drop-of-length-le}
+use lib.Seq.{drop-cons}
+use lib.IntN.{ℤ, pos, negsuc, natAbs, _+ℤ_, _-ℤ_, _*ℤ_, +ℤ-assoc, zero-*ℤ, *ℤ-zero, *ℤ-comm}
+use native.Mathlib.Numerals.{add-one}
+use Rattle.exact.proofs.Integers.{*ℤ-+ℤ}
+use lib.Signed.{_≤ℤ_, ≤ℤ-refl}
+use Rattle.exact.specs.WeightedSum.{weightedSum, total, Within}
+use Rattle.exact.proofs.Order.{integers, +ℤ-mono, *ℤ-mono, ≡-≤ℤ, ≤ℤ-trans, size-sum, size-product, sum-parts, size-parts}
+use Rattle.exact.proofs.Expressions.{Expr, var, lit, _⊕_, _⊖_, _⊗_, identity}
+
+-- ---- linear in the values
+
+-- f is linear in its two arguments together, and so is every weighted sum of what it gives
+linear : (f : ℤ → ℤ → ℤ) → f (pos 0) (pos 0) ≡ pos 0 → ((w v u x y : ℤ) → w *ℤ f v u +ℤ f x y ≡ f (w *ℤ v +ℤ x) (w *ℤ u +ℤ y)) → (ws vs us : List ℤ) → length vs ≡ length us → weightedSum ws (zipWith f vs us) ≡ f (weightedSum ws vs) (weightedSum ws us)
+unfolding weightedSum zipWith
+linear f z s [] vs us e = sym z
+linear f z s (w ∷ ws) [] [] e = sym z
+linear f z s (w ∷ ws) [] (u ∷ us) e = absurd (omega arith)
+linear f z s (w ∷ ws) (v ∷ vs) [] e = absurd (omega arith)
+linear f z s (w ∷ ws) (v ∷ vs) (u ∷ us) e =
+    ap (λ (x : ℤ). w *ℤ f v u +ℤ x) (linear f z s ws vs us (omega arith)) ∙ s w v u (weightedSum ws vs) (weightedSum ws us)
+
+pub sum-of-values : (ws vs us : List ℤ) → length vs ≡ length us → weightedSum ws (zipWith _+ℤ_ vs us) ≡ weightedSum ws vs +ℤ weightedSum ws us
+sum-of-values = linear _+ℤ_ refl (λ w v u x y. identity (var 0 ⊗ (var 1 ⊕ var 2) ⊕ (var 3 ⊕ var 4)) ((var 0 ⊗ var 1 ⊕ var 3) ⊕ (var 0 ⊗ var 2 ⊕ var 4)) (w ∷ v ∷ u ∷ x ∷ y ∷ []) refl)
+
+pub difference-of-values : (ws vs us : List ℤ) → length vs ≡ length us → weightedSum ws (zipWith _-ℤ_ vs us) ≡ weightedSum ws vs -ℤ weightedSum ws us
+difference-of-values = linear _-ℤ_ refl (λ w v u x y. identity (var 0 ⊗ (var 1 ⊖ var 2) ⊕ (var 3 ⊖ var 4)) ((var 0 ⊗ var 1 ⊕ var 3) ⊖ (var 0 ⊗ var 2 ⊕ var 4)) (w ∷ v ∷ u ∷ x ∷ y ∷ []) refl)
+
+pub multiple-of-values : (c : ℤ) (ws vs : List ℤ) → weightedSum ws (map (λ (v : ℤ). c *ℤ v) vs) ≡ c *ℤ weightedSum ws vs
+unfolding weightedSum
+multiple-of-values c [] vs = identity (lit (pos 0)) (var 0 ⊗ lit (pos 0)) (c ∷ []) refl
+multiple-of-values c (w ∷ ws) [] = identity (lit (pos 0)) (var 0 ⊗ lit (pos 0)) (c ∷ []) refl
+multiple-of-values c (w ∷ ws) (v ∷ vs) =
+    ap (λ (x : ℤ). w *ℤ (c *ℤ v) +ℤ x) (multiple-of-values c ws vs)
+    ∙ identity (var 0 ⊗ (var 1 ⊗ var 2) ⊕ var 1 ⊗ var 3) (var 1 ⊗ (var 0 ⊗ var 2 ⊕ var 3)) (w ∷ c ∷ v ∷ weightedSum ws vs ∷ []) refl
+
+-- weights and values are alike, so what holds of the values holds of the weights too
+pub weightedSum-sym : (ws vs : List ℤ) → weightedSum ws vs ≡ weightedSum vs ws
+unfolding weightedSum
+weightedSum-sym [] [] = refl
+weightedSum-sym [] (v ∷ vs) = refl
+weightedSum-sym (w ∷ ws) [] = refl
+weightedSum-sym (w ∷ ws) (v ∷ vs) =
+    ap (λ (x : ℤ). w *ℤ v +ℤ x) (weightedSum-sym ws vs) ∙ ap (λ (x : ℤ). x +ℤ weightedSum vs ws) (*ℤ-comm w v)
+
+-- ---- range
+
+-- the weight is not negative, and where it is not 0, the value lies from m to n
+abbrev pub InRange : ℤ → ℤ → ℤ → ℤ → Type 0
+InRange m n w v = (pos 0 ≤ℤ w) × ((w ≡ pos 0) ⊎ ((m ≤ℤ v) × (v ≤ℤ n)))
+
+-- one term
+term : {m n w v : ℤ} → InRange m n w v → ((m *ℤ w) ≤ℤ (w *ℤ v)) × ((w *ℤ v) ≤ℤ (n *ℤ w))
+term {m} {n} {w} {v} h = ⊎-elim absent present (h .1)
+  where
+    vanishes : w ≡ pos 0 → (x : ℤ) → x *ℤ w ≡ w *ℤ v
+    vanishes e x = *ℤ-comm x w ∙ ap (λ (y : ℤ). y *ℤ x) e ∙ zero-*ℤ x ∙ sym (zero-*ℤ v) ∙ ap (λ (y : ℤ). y *ℤ v) (sym e)
+
+    absent : w ≡ pos 0 → ((m *ℤ w) ≤ℤ (w *ℤ v)) × ((w *ℤ v) ≤ℤ (n *ℤ w))
+    absent e = (≡-≤ℤ (vanishes e m), ≡-≤ℤ (sym (vanishes e n)))
+
+    present : (m ≤ℤ v) × (v ≤ℤ n) → ((m *ℤ w) ≤ℤ (w *ℤ v)) × ((w *ℤ v) ≤ℤ (n *ℤ w))
+    present r = (
+      subst (λ (x : ℤ). x ≤ℤ (w *ℤ v)) (*ℤ-comm w m) (*ℤ-mono w (h .0) (r .0)),
+      subst (λ (x : ℤ). (w *ℤ v) ≤ℤ x) (*ℤ-comm w n) (*ℤ-mono w (h .0) (r .1)),
+    )
+
+-- the sum lies in the range of the values that count, times the sum of the weights
+pub sum-range : {m n : ℤ} {ws vs : List ℤ} → Forall₂ (InRange m n) ws vs → ((m *ℤ total ws) ≤ℤ weightedSum ws vs) × (weightedSum ws vs ≤ℤ (n *ℤ total ws))
+unfolding weightedSum total
+sum-range {m} {n} Forall₂·nil = (≡-≤ℤ (*ℤ-zero m), ≡-≤ℤ (sym (*ℤ-zero n)))
+sum-range {m} {n} (Forall₂·cons {a = w} {b = v} {l₁ = ws} {l₂ = vs} h t) =
+    let r = sum-range t in (
+      subst (λ (x : ℤ). x ≤ℤ (w *ℤ v +ℤ weightedSum ws vs)) (sym (*ℤ-+ℤ m w (total ws))) (+ℤ-mono (term h .0) (r .0)),
+      subst (λ (x : ℤ). (w *ℤ v +ℤ weightedSum ws vs) ≤ℤ x) (sym (*ℤ-+ℤ n w (total ws))) (+ℤ-mono (term h .1) (r .1)),
+    )
+
+-- ---- distance and size
+
+abbrev pub NotNegative : List ℤ → Type 0
+NotNegative [] = Unit {0}
+NotNegative (w ∷ ws) = (pos 0 ≤ℤ w) × NotNegative ws
+
+-- the two values differ by at most e
+abbrev pub Near : ℕ → ℤ → ℤ → Type 0
+Near e v u = natAbs (v -ℤ u) ≤ e
+
+total-not-negative : (ws : List ℤ) → NotNegative ws → pos 0 ≤ℤ total ws
+unfolding total
+total-not-negative [] h = ≤ℤ-refl (pos 0)
+total-not-negative (w ∷ ws) h = +ℤ-mono (h .0) (total-not-negative ws (h .1))
+
+-- the sizes of weights that are not negative add up
+total-size : (w : ℤ) (ws : List ℤ) → NotNegative (w ∷ ws) → natAbs (w +ℤ total ws) ≡ natAbs w + natAbs (total ws)
+total-size w ws h = sizes-add w (total ws) (h .0) (total-not-negative ws (h .1))
+  where
+    sizes-add : (a b : ℤ) → pos 0 ≤ℤ a → pos 0 ≤ℤ b → natAbs (a +ℤ b) ≡ natAbs a + natAbs b
+    sizes-add (pos a) (pos b) h k = refl
+    sizes-add (pos a) (negsuc b) h k = absurd (k .le)
+    sizes-add (negsuc a) b h k = absurd (h .le)
+
+-- values that differ by at most e everywhere have sums that differ by at most e times the sum of the weights
+pub sum-distance : {e : ℕ} {vs us : List ℤ} (ws : List ℤ) → NotNegative ws → Forall₂ (Near e) vs us → natAbs (weightedSum ws vs -ℤ weightedSum ws us) ≤ e * natAbs (total ws)
+unfolding weightedSum total
+sum-distance [] h d = zero-le
+sum-distance (w ∷ ws) h Forall₂·nil = zero-le
+sum-distance {e} (w ∷ ws) h (Forall₂·cons {a = v} {b = u} {l₁ = vs} {l₂ = us} d t) =
+    let rest = weightedSum ws vs -ℤ weightedSum ws us in
+    let apart : (w *ℤ v +ℤ weightedSum ws vs) -ℤ (w *ℤ u +ℤ weightedSum ws us) ≡ w *ℤ (v -ℤ u) +ℤ rest = identity ((var 0 ⊗ var 1 ⊕ var 3) ⊖ (var 0 ⊗ var 2 ⊕ var 4)) (var 0 ⊗ (var 1 ⊖ var 2) ⊕ (var 3 ⊖ var 4)) (w ∷ v ∷ u ∷ weightedSum ws vs ∷ weightedSum ws us ∷ []) refl in
+    let one : natAbs (w *ℤ (v -ℤ u)) ≤ natAbs w * e = subst (λ (x : ℕ). x ≤ natAbs w * e) (sym (size-product w (v -ℤ u))) (mul-le-mul-left (natAbs w) d) in
+    let more : natAbs rest ≤ e * natAbs (total ws) = sum-distance ws (h .1) t in
+    omega (arith, ap natAbs apart, size-sum (w *ℤ (v -ℤ u)) rest, ap (λ (x : ℕ). e * x) (total-size w ws h))
+
+pub sum-size : (m n : ℕ) (ws vs : List ℤ) → Within m ws → Within n vs → natAbs (weightedSum ws vs) ≤ length ws * (m * n)
+unfolding weightedSum
+sum-size m n [] vs h k = zero-le
+sum-size m n (w ∷ ws) [] h k = zero-le
+sum-size m n (w ∷ ws) (v ∷ vs) h k =
+    omega (arith, size-sum (w *ℤ v) (weightedSum ws vs), size-product w v, mul-le-mul (h .0) (k .0), sum-size m n ws vs (h .1) (k .1))
+
+-- ---- a weight of 0 makes its value not matter
+
+-- the sums are equal where, at each index, the weight is 0 or the values are equal
+pub sum-same : (ws vs us : List ℤ) → length vs ≡ length us → ((i : ℕ) → (getD ws i (pos 0) ≡ pos 0) ⊎ (getD vs i (pos 0) ≡ getD us i (pos 0))) → weightedSum ws vs ≡ weightedSum ws us
+unfolding weightedSum
+sum-same [] vs us e h = refl
+sum-same (w ∷ ws) [] [] e h = refl
+sum-same (w ∷ ws) [] (u ∷ us) e h = absurd (omega arith)
+sum-same (w ∷ ws) (v ∷ vs) [] e h = absurd (omega arith)
+sum-same (w ∷ ws) (v ∷ vs) (u ∷ us) e h =
+    ap (λ (x : ℤ). x +ℤ weightedSum ws vs) (⊎-elim (λ z. ap (λ (x : ℤ). x *ℤ v) z ∙ zero-*ℤ v ∙ sym (ap (λ (x : ℤ). x *ℤ u) z ∙ zero-*ℤ u)) (λ q. ap (λ (x : ℤ). w *ℤ x) q) (h zero))
+    ∙ ap (λ (x : ℤ). w *ℤ u +ℤ x) (sum-same ws vs us (omega arith) (λ i. h (suc i)))
+
+-- ---- for a loop that adds term by term
+
+-- s with the term at i added, and the rest after i, is s with the rest from i on
+pub sum-turn : (s : ℤ) (ws vs : List ℤ) (i : ℕ) → i < length ws → i < length vs → (s +ℤ getD ws i (pos 0) *ℤ getD vs i (pos 0)) +ℤ weightedSum (drop (i + 1) ws) (drop (i + 1) vs) ≡ s +ℤ weightedSum (drop i ws) (drop i vs)
+unfolding weightedSum
+sum-turn s ws vs i h k = rw (add-one, drop-cons ws i (pos 0), drop-cons vs i (pos 0)) (+ℤ-assoc s (getD ws i (pos 0) *ℤ getD vs i (pos 0)) (weightedSum (drop (suc i) ws) (drop (suc i) vs)))
+
+-- after the last term nothing is left
+pub sum-end : (ws vs : List ℤ) (i : ℕ) → length ws ≤ i → weightedSum (drop i ws) (drop i vs) ≡ pos 0
+unfolding weightedSum
+sum-end ws vs i h = rw (drop-of-length-le ws)
+
+pub within-at : (n : ℕ) (zs : List ℤ) → Within n zs → (i : ℕ) → natAbs (getD zs i (pos 0)) ≤ n
+within-at n [] h i = zero-le
+within-at n (z ∷ zs) h zero = h .0
+within-at n (z ∷ zs) h (suc i) = within-at n zs (h .1) i

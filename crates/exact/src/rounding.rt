@@ -1,0 +1,22 @@
+ghost use mathlib.Core.Path.{_≡_};
+ghost use Prim.Native.Nat.{_<_, _≤_, _^_};
+ghost use lib.IntN.{pos, natAbs};
+ghost use lib.Signed.{_<ℤ_};
+ghost use Rattle.exact.specs.Rounding.{floorQuotient, rounded};
+
+// a / b rounded down. Division in the language goes towards zero, so below zero the quotient of -1 - a is taken, which is not negative.
+fn floor_quotient(a: i64, b: i64) -> i64
+    requires { ⌜ pos 0 <ℤ b ⌝ }
+    ensures { λ r. ⌜ r ≡ floorQuotient a (natAbs b) ⌝ }
+{
+    if a < 0 { -1 - (-1 - a) / b } else { a / b }
+}
+
+// n / d to the nearest whole number, halves upwards.
+pub fn round_quotient(n: i64, d: u32) -> i64
+    requires { ⌜ (0 < d) × (natAbs n ≤ 2 ^ 61) ⌝ }
+    ensures { λ r. ⌜ r ≡ rounded n d ⌝ }
+{
+    let wide = d as i64;
+    floor_quotient(2 * n + wide, 2 * wide)
+}
