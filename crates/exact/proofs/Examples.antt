@@ -1,17 +1,31 @@
--- Examples of `identity`, and how each is used.
+-- Examples of use, one or two of each kind. Nothing cites this file: it shows how the laws are called, and that they do what they are for.
 use mathlib.Core.Path.{_≡_, refl}
-use mathlib.Core.List.{List, [], _∷_}
-use Prim.Native.Nat.{ℕ}
-use lib.IntN.{ℤ, pos, negsuc, negℤ, _+ℤ_, _-ℤ_, _*ℤ_}
+use mathlib.Core.Logic.{inl, inr}
+use mathlib.Core.List.{List, [], _∷_, Forall₂·nil, Forall₂·cons}
+use Prim.Native.Nat.{ℕ, _^_, _≤_}
+use lib.Dec.{lit<}
+use lib.IntN.{ℤ, pos, natAbs, _+ℤ_, _-ℤ_, _*ℤ_}
+use lib.Signed.{_≤ℤ_, leZ-yes}
+use mir.Syntax.{w32, w64}
+use mir.Val.{SFits}
+use Rattle.exact.specs.Rounding.{rounded}
+use Rattle.exact.specs.WeightedSum.{weightedSum, total}
+use Rattle.exact.proofs.Parts.{integers}
 use Rattle.exact.proofs.Expressions.{Expr, var, lit, _⊕_, _⊖_, _⊗_, value, identity}
+use Rattle.exact.proofs.Linear.{expression-parts}
+use Rattle.exact.proofs.Sizes.{fits-by-size}
+use Rattle.exact.proofs.RoundingLaws.{mean-range}
+
+-- ---- identities
 
 square-of-sum : (x y : ℤ) → (x +ℤ y) *ℤ (x +ℤ y) ≡ x *ℤ x +ℤ pos 2 *ℤ (x *ℤ y) +ℤ y *ℤ y
-square-of-sum x y = identity ((var 0 ⊕ var 1) ⊗ (var 0 ⊕ var 1)) (var 0 ⊗ var 0 ⊕ lit (pos 2) ⊗ (var 0 ⊗ var 1) ⊕ var 1 ⊗ var 1) (x ∷ y ∷ []) refl
+square-of-sum x y =
+    identity ((var 0 ⊕ var 1) ⊗ (var 0 ⊕ var 1)) (var 0 ⊗ var 0 ⊕ lit (pos 2) ⊗ (var 0 ⊗ var 1) ⊕ var 1 ⊗ var 1) (x ∷ y ∷ []) refl
 
 difference-of-squares : (x y : ℤ) → x *ℤ x -ℤ y *ℤ y ≡ (x -ℤ y) *ℤ (x +ℤ y)
 difference-of-squares x y = identity (var 0 ⊗ var 0 ⊖ var 1 ⊗ var 1) ((var 0 ⊖ var 1) ⊗ (var 0 ⊕ var 1)) (x ∷ y ∷ []) refl
 
--- ---- two of the identities by which exact refinement keeps the spline, in twelve variables
+-- two of the identities by which exact refinement keeps the spline, in twelve variables: nine controls and the gaps x, y, g between ordered shares
 
 abbrev times : ℕ → Expr → Expr
 times n e = lit (pos n) ⊗ e
@@ -61,8 +75,15 @@ midPQ = record { next = across (var 0) (var 1) (var 3); third = across (var 0) (
 abbrev midRP : Corner
 midRP = record { next = along (var 0) (var 1); third = across (var 6) (var 7) (var 0); before = across (var 6) (var 8) (var 1) }
 
-corner-triangle : (ρ : List ℤ) → value ρ (exact36 keptP midPQ midRP (var 9) (var 10) (var 11)) ≡ value ρ (times 3 (exact36 P Q R (times 2 (var 9 ⊕ var 10) ⊕ times 3 (var 11)) (var 10) (var 11)))
-corner-triangle ρ = identity (exact36 keptP midPQ midRP (var 9) (var 10) (var 11)) (times 3 (exact36 P Q R (times 2 (var 9 ⊕ var 10) ⊕ times 3 (var 11)) (var 10) (var 11))) ρ refl
+-- the gaps are x, y, g in the fine triangle, and 2x + 2y + 3g, y, g in the coarse one
+abbrev cornerFine : Expr
+cornerFine = exact36 keptP midPQ midRP (var 9) (var 10) (var 11)
+
+abbrev cornerCoarse : Expr
+cornerCoarse = times 3 (exact36 P Q R (times 2 (var 9 ⊕ var 10) ⊕ times 3 (var 11)) (var 10) (var 11))
+
+corner-triangle : (ρ : List ℤ) → value ρ cornerFine ≡ value ρ cornerCoarse
+corner-triangle ρ = identity cornerFine cornerCoarse ρ refl
 
 -- the fine triangle in the middle: the midpoints of P, Q, of R, P and of Q, R. It is of the other kind, so its corners' controls come in another order
 abbrev middlePQ : Corner
@@ -74,5 +95,40 @@ middleRP = record { next = midRP .third; third = midRP .next; before = midRP .be
 abbrev middleQR : Corner
 middleQR = record { next = across (var 3) (var 4) (var 6); third = along (var 6) (var 7); before = across (var 3) (var 5) (var 7) }
 
-middle-triangle : (ρ : List ℤ) → value ρ (exact36 middlePQ middleRP middleQR (var 9) (var 10) (var 11)) ≡ value ρ (times 3 (exact36 P Q R (var 10) (var 9) (var 10 ⊕ times 2 (var 11))))
-middle-triangle ρ = identity (exact36 middlePQ middleRP middleQR (var 9) (var 10) (var 11)) (times 3 (exact36 P Q R (var 10) (var 9) (var 10 ⊕ times 2 (var 11)))) ρ refl
+-- the gaps are x, y, g in the fine triangle, and y, x, y + 2g in the coarse one
+abbrev middleFine : Expr
+middleFine = exact36 middlePQ middleRP middleQR (var 9) (var 10) (var 11)
+
+abbrev middleCoarse : Expr
+middleCoarse = times 3 (exact36 P Q R (var 10) (var 9) (var 10 ⊕ times 2 (var 11)))
+
+middle-triangle : (ρ : List ℤ) → value ρ middleFine ≡ value ρ middleCoarse
+middle-triangle ρ = identity middleFine middleCoarse ρ refl
+
+-- ---- sizes
+
+-- a weighted sum of two numbers of the net range fits 64 bits, and a smaller one fits 32
+wide-sum : (x y : ℤ) → natAbs x ≤ 2 ^ 24 → natAbs y ≤ 2 ^ 24 → SFits w64 (pos 37748736 *ℤ x -ℤ pos 37748736 *ℤ y)
+wide-sum x y h k =
+    fits-by-size w64 (x ∷ y ∷ []) (2 ^ 24 ∷ 2 ^ 24 ∷ []) (lit (pos 37748736) ⊗ var 0 ⊖ lit (pos 37748736) ⊗ var 1) (h, (k, tt)) tt
+
+narrow-sum : (x y : ℤ) → natAbs x ≤ 2 ^ 24 → natAbs y ≤ 2 ^ 24 → SFits w32 (pos 36 *ℤ x +ℤ pos 36 *ℤ y)
+narrow-sum x y h k =
+    fits-by-size w32 (x ∷ y ∷ []) (2 ^ 24 ∷ 2 ^ 24 ∷ []) (lit (pos 36) ⊗ var 0 ⊕ lit (pos 36) ⊗ var 1) (h, (k, tt)) tt
+
+-- ---- order
+
+linear-fact : (a b c : ℤ) → a ≤ℤ b → b ≤ℤ c → (pos 3 *ℤ a -ℤ (b +ℤ pos 2)) ≤ℤ (pos 2 *ℤ c)
+linear-fact a b c h k =
+    let ρ = a ∷ b ∷ c ∷ [] in
+    omega (integers, expression-parts ρ (lit (pos 3) ⊗ var 0 ⊖ (var 1 ⊕ lit (pos 2))), expression-parts ρ (lit (pos 2) ⊗ var 2))
+
+-- ---- a rounded mean, in the range of the values whose weight is not 0
+
+mean-of-two : (m n x y z : ℤ) → m ≤ℤ x → x ≤ℤ n → m ≤ℤ y → y ≤ℤ n →
+    (m ≤ℤ rounded (weightedSum (pos 8 ∷ pos 4 ∷ pos 0 ∷ []) (x ∷ y ∷ z ∷ [])) 12)
+    × (rounded (weightedSum (pos 8 ∷ pos 4 ∷ pos 0 ∷ []) (x ∷ y ∷ z ∷ [])) 12 ≤ℤ n)
+unfolding total
+mean-of-two m n x y z a b c d =
+    mean-range 12 (lit< tt) refl
+    (Forall₂·cons (leZ-yes tt, inr (a, b)) (Forall₂·cons (leZ-yes tt, inr (c, d)) (Forall₂·cons (leZ-yes tt, inl refl) Forall₂·nil)))

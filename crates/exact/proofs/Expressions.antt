@@ -1,12 +1,13 @@
--- Identities of integers by computation. An expression over variables has a value in an environment, the list of what the variables stand for, and a normal form, a sorted list of terms.
--- Two expressions with the same normal form have the same value in every environment: `identity a b ρ refl` proves `value ρ a ≡ value ρ b`, and `value` computes, so this is the identity as it is written.
+-- Identities of integers by computation. An expression has a value in an environment, the list of what its variables stand for, and a normal form, a sorted
+-- list of terms. Two expressions with the same normal form have the same value: `identity a b ρ refl` proves `value ρ a ≡ value ρ b`. `value` computes, so
+-- that is the identity as it is written.
 use mathlib.Core.Path.{_≡_, refl, sym, _∙_, ap, subst}
 use mathlib.Core.List.{List, [], _∷_}
 use mathlib.Core.Bool.{Bool, true, false}
-use Prim.Native.Nat.{ℕ, zero, suc, compare, Ordering, Ordering·lt, Ordering·eq, Ordering·gt}
+use Prim.Native.Nat.{ℕ, compare, Ordering, Ordering·lt, Ordering·eq, Ordering·gt}
 use lib.Dec.{T, leb, eqb, isEq, eqb→eq}
 use lib.ListN.{getD}
-use lib.IntN.{ℤ, pos, negsuc, negℤ, _+ℤ_, _-ℤ_, _*ℤ_, +ℤ-assoc, +ℤ-comm, +ℤ-idl, +ℤ-idr, negℤ-+ℤ, zero-*ℤ, *ℤ-zero, *ℤ-comm}
+use lib.IntN.{ℤ, pos, negsuc, negℤ, _+ℤ_, _-ℤ_, _*ℤ_, +ℤ-assoc, +ℤ-idl, +ℤ-idr, negℤ-+ℤ, zero-*ℤ, *ℤ-zero, *ℤ-comm}
 use Rattle.exact.proofs.Integers.{+ℤ-left-comm, +ℤ-*ℤ, *ℤ-+ℤ, *ℤ-assoc, *ℤ-exchange, *ℤ-left-comm, neg-times, one-times}
 
 -- ---- expressions and their value
@@ -68,7 +69,12 @@ keep c m p = elim (isZero c) [ true ↦ p | false ↦ term c m p ]
 -- one term more, put in its place
 abbrev insert : ℤ → List ℕ → Terms → Terms
 insert c m none = keep c m none
-insert c m (term d n p) = elim (ordered m n) [ Ordering·lt ↦ keep c m (term d n p) | Ordering·eq ↦ keep (c +ℤ d) n p | Ordering·gt ↦ term d n (insert c m p) ]
+insert c m (term d n p) =
+    elim (ordered m n) [
+      | Ordering·lt ↦ keep c m (term d n p)
+      | Ordering·eq ↦ keep (c +ℤ d) n p
+      | Ordering·gt ↦ term d n (insert c m p)
+    ]
 
 abbrev sumOf : Terms → Terms → Terms
 sumOf none q = q
@@ -104,16 +110,7 @@ normal (var i) = term (pos 1) (i ∷ []) none
 normal (lit z) = keep z [] none
 normal (op o a b) = combined o (normal a) (normal b)
 
--- ---- the value of a normal form
-
-module _ (ρ : List ℤ) where
-  varsValue : List ℕ → ℤ
-  varsValue [] = pos 1
-  varsValue (i ∷ m) = getD ρ i (pos 0) *ℤ varsValue m
-
-  termsValue : Terms → ℤ
-  termsValue none = pos 0
-  termsValue (term c m p) = c *ℤ varsValue m +ℤ termsValue p
+-- ---- the value of a normal form is the expression's value
 
 ordered-eq : (m n : List ℕ) → ordered m n ≡ Ordering·eq → m ≡ n
 ordered-eq [] [] e = refl
@@ -131,96 +128,120 @@ zero-of (pos n) e = ap pos (eqb→eq n 0 (subst T (sym e) tt))
 zero-of (negsuc n) e = absurd (subst T (sym e) tt)
 
 module _ (ρ : List ℤ) where
-  keep-value : (c : ℤ) (m : List ℕ) (p : Terms) → termsValue ρ (keep c m p) ≡ c *ℤ varsValue ρ m +ℤ termsValue ρ p
+  abbrev at : ℕ → ℤ
+  at i = getD ρ i (pos 0)
+
+  varsValue : List ℕ → ℤ
+  varsValue [] = pos 1
+  varsValue (i ∷ m) = at i *ℤ varsValue m
+
+  termsValue : Terms → ℤ
+  termsValue none = pos 0
+  termsValue (term c m p) = c *ℤ varsValue m +ℤ termsValue p
+
+  keep-value : (c : ℤ) (m : List ℕ) (p : Terms) → termsValue (keep c m p) ≡ c *ℤ varsValue m +ℤ termsValue p
   unfolding termsValue
   keep-value c m p = go (isZero c) refl
     where
-      go : (b : Bool) → isZero c ≡ b → termsValue ρ (elim b as (λ (x : Bool). Terms) [ true ↦ p | false ↦ term c m p ]) ≡ c *ℤ varsValue ρ m +ℤ termsValue ρ p
-      go true e = sym (ap (λ (x : ℤ). x *ℤ varsValue ρ m +ℤ termsValue ρ p) (zero-of c e) ∙ ap (λ (x : ℤ). x +ℤ termsValue ρ p) (zero-*ℤ (varsValue ρ m)) ∙ +ℤ-idl (termsValue ρ p))
+      go : (b : Bool) → isZero c ≡ b →
+          termsValue (elim b as (λ (x : Bool). Terms) [ true ↦ p | false ↦ term c m p ]) ≡ c *ℤ varsValue m +ℤ termsValue p
+      go true e =
+          sym
+          (ap (λ (x : ℤ). x *ℤ varsValue m +ℤ termsValue p) (zero-of c e)
+          ∙ ap (λ (x : ℤ). x +ℤ termsValue p) (zero-*ℤ (varsValue m))
+          ∙ +ℤ-idl (termsValue p))
       go false e = refl
 
-  insert-value : (c : ℤ) (m : List ℕ) (p : Terms) → termsValue ρ (insert c m p) ≡ c *ℤ varsValue ρ m +ℤ termsValue ρ p
+  insert-value : (c : ℤ) (m : List ℕ) (p : Terms) → termsValue (insert c m p) ≡ c *ℤ varsValue m +ℤ termsValue p
   unfolding termsValue
   insert-value c m none = keep-value c m none
   insert-value c m (term d n p) = go (insert-value c m p) (ordered m n) refl
     where
-      go : termsValue ρ (insert c m p) ≡ c *ℤ varsValue ρ m +ℤ termsValue ρ p → (o : Ordering) → ordered m n ≡ o →
-          termsValue ρ (elim o as (λ (x : Ordering). Terms) [ Ordering·lt ↦ keep c m (term d n p) | Ordering·eq ↦ keep (c +ℤ d) n p | Ordering·gt ↦ term d n (insert c m p) ])
-          ≡ c *ℤ varsValue ρ m +ℤ (d *ℤ varsValue ρ n +ℤ termsValue ρ p)
+      go : termsValue (insert c m p) ≡ c *ℤ varsValue m +ℤ termsValue p → (o : Ordering) → ordered m n ≡ o →
+          termsValue
+          (elim o as (λ (x : Ordering). Terms) [
+            | Ordering·lt ↦ keep c m (term d n p)
+            | Ordering·eq ↦ keep (c +ℤ d) n p
+            | Ordering·gt ↦ term d n (insert c m p)
+          ])
+          ≡ c *ℤ varsValue m +ℤ (d *ℤ varsValue n +ℤ termsValue p)
       go ih Ordering·lt e = keep-value c m (term d n p)
       go ih Ordering·eq e =
           keep-value (c +ℤ d) n p
-          ∙ ap (λ (x : ℤ). x +ℤ termsValue ρ p) (+ℤ-*ℤ c d (varsValue ρ n))
-          ∙ +ℤ-assoc (c *ℤ varsValue ρ n) (d *ℤ varsValue ρ n) (termsValue ρ p)
-          ∙ ap (λ (x : List ℕ). c *ℤ varsValue ρ x +ℤ (d *ℤ varsValue ρ n +ℤ termsValue ρ p)) (sym (ordered-eq m n e))
+          ∙ ap (λ (x : ℤ). x +ℤ termsValue p) (+ℤ-*ℤ c d (varsValue n))
+          ∙ +ℤ-assoc (c *ℤ varsValue n) (d *ℤ varsValue n) (termsValue p)
+          ∙ ap (λ (x : List ℕ). c *ℤ varsValue x +ℤ (d *ℤ varsValue n +ℤ termsValue p)) (sym (ordered-eq m n e))
       go ih Ordering·gt e =
-          ap (λ (x : ℤ). d *ℤ varsValue ρ n +ℤ x) ih
-          ∙ +ℤ-left-comm (d *ℤ varsValue ρ n) (c *ℤ varsValue ρ m) (termsValue ρ p)
+          ap (λ (x : ℤ). d *ℤ varsValue n +ℤ x) ih
+          ∙ +ℤ-left-comm (d *ℤ varsValue n) (c *ℤ varsValue m) (termsValue p)
 
-  sumOf-value : (p q : Terms) → termsValue ρ (sumOf p q) ≡ termsValue ρ p +ℤ termsValue ρ q
+  sumOf-value : (p q : Terms) → termsValue (sumOf p q) ≡ termsValue p +ℤ termsValue q
   unfolding termsValue
-  sumOf-value none q = sym (+ℤ-idl (termsValue ρ q))
+  sumOf-value none q = sym (+ℤ-idl (termsValue q))
   sumOf-value (term c m p) q =
       insert-value c m (sumOf p q)
-      ∙ ap (λ (x : ℤ). c *ℤ varsValue ρ m +ℤ x) (sumOf-value p q)
-      ∙ sym (+ℤ-assoc (c *ℤ varsValue ρ m) (termsValue ρ p) (termsValue ρ q))
+      ∙ ap (λ (x : ℤ). c *ℤ varsValue m +ℤ x) (sumOf-value p q)
+      ∙ sym (+ℤ-assoc (c *ℤ varsValue m) (termsValue p) (termsValue q))
 
-  insertVar-value : (i : ℕ) (n : List ℕ) → varsValue ρ (insertVar i n) ≡ getD ρ i (pos 0) *ℤ varsValue ρ n
+  insertVar-value : (i : ℕ) (n : List ℕ) → varsValue (insertVar i n) ≡ at i *ℤ varsValue n
   unfolding varsValue
   insertVar-value i [] = refl
   insertVar-value i (j ∷ n) = go (insertVar-value i n) (leb i j)
     where
-      go : varsValue ρ (insertVar i n) ≡ getD ρ i (pos 0) *ℤ varsValue ρ n → (b : Bool) →
-          varsValue ρ (elim b as (λ (x : Bool). List ℕ) [ true ↦ i ∷ j ∷ n | false ↦ j ∷ insertVar i n ]) ≡ getD ρ i (pos 0) *ℤ (getD ρ j (pos 0) *ℤ varsValue ρ n)
+      go : varsValue (insertVar i n) ≡ at i *ℤ varsValue n → (b : Bool) →
+          varsValue (elim b as (λ (x : Bool). List ℕ) [ true ↦ i ∷ j ∷ n | false ↦ j ∷ insertVar i n ]) ≡ at i *ℤ (at j *ℤ varsValue n)
       go ih true = refl
-      go ih false = ap (λ (x : ℤ). getD ρ j (pos 0) *ℤ x) ih ∙ *ℤ-left-comm (getD ρ j (pos 0)) (getD ρ i (pos 0)) (varsValue ρ n)
+      go ih false = ap (λ (x : ℤ). at j *ℤ x) ih ∙ *ℤ-left-comm (at j) (at i) (varsValue n)
 
-  joinVars-value : (m n : List ℕ) → varsValue ρ (joinVars m n) ≡ varsValue ρ m *ℤ varsValue ρ n
+  joinVars-value : (m n : List ℕ) → varsValue (joinVars m n) ≡ varsValue m *ℤ varsValue n
   unfolding varsValue
-  joinVars-value [] n = sym (one-times (varsValue ρ n))
+  joinVars-value [] n = sym (one-times (varsValue n))
   joinVars-value (i ∷ m) n =
       insertVar-value i (joinVars m n)
-      ∙ ap (λ (x : ℤ). getD ρ i (pos 0) *ℤ x) (joinVars-value m n)
-      ∙ sym (*ℤ-assoc (getD ρ i (pos 0)) (varsValue ρ m) (varsValue ρ n))
+      ∙ ap (λ (x : ℤ). at i *ℤ x) (joinVars-value m n)
+      ∙ sym (*ℤ-assoc (at i) (varsValue m) (varsValue n))
 
-  timesTerm-value : (c : ℤ) (m : List ℕ) (q : Terms) → termsValue ρ (timesTerm c m q) ≡ (c *ℤ varsValue ρ m) *ℤ termsValue ρ q
+  timesTerm-value : (c : ℤ) (m : List ℕ) (q : Terms) → termsValue (timesTerm c m q) ≡ (c *ℤ varsValue m) *ℤ termsValue q
   unfolding termsValue
-  timesTerm-value c m none = sym (*ℤ-zero (c *ℤ varsValue ρ m))
+  timesTerm-value c m none = sym (*ℤ-zero (c *ℤ varsValue m))
   timesTerm-value c m (term d n q) =
       insert-value (c *ℤ d) (joinVars m n) (timesTerm c m q)
-      ∙ ap (λ (x : ℤ). (c *ℤ d) *ℤ x +ℤ termsValue ρ (timesTerm c m q)) (joinVars-value m n)
-      ∙ ap (λ (x : ℤ). x +ℤ termsValue ρ (timesTerm c m q)) (*ℤ-exchange c d (varsValue ρ m) (varsValue ρ n))
-      ∙ ap (λ (x : ℤ). (c *ℤ varsValue ρ m) *ℤ (d *ℤ varsValue ρ n) +ℤ x) (timesTerm-value c m q)
-      ∙ sym (*ℤ-+ℤ (c *ℤ varsValue ρ m) (d *ℤ varsValue ρ n) (termsValue ρ q))
+      ∙ ap (λ (x : ℤ). (c *ℤ d) *ℤ x +ℤ termsValue (timesTerm c m q)) (joinVars-value m n)
+      ∙ ap (λ (x : ℤ). x +ℤ termsValue (timesTerm c m q)) (*ℤ-exchange c d (varsValue m) (varsValue n))
+      ∙ ap (λ (x : ℤ). (c *ℤ varsValue m) *ℤ (d *ℤ varsValue n) +ℤ x) (timesTerm-value c m q)
+      ∙ sym (*ℤ-+ℤ (c *ℤ varsValue m) (d *ℤ varsValue n) (termsValue q))
 
-  productOf-value : (p q : Terms) → termsValue ρ (productOf p q) ≡ termsValue ρ p *ℤ termsValue ρ q
+  productOf-value : (p q : Terms) → termsValue (productOf p q) ≡ termsValue p *ℤ termsValue q
   unfolding termsValue
-  productOf-value none q = sym (zero-*ℤ (termsValue ρ q))
+  productOf-value none q = sym (zero-*ℤ (termsValue q))
   productOf-value (term c m p) q =
       sumOf-value (timesTerm c m q) (productOf p q)
-      ∙ ap (λ (x : ℤ). x +ℤ termsValue ρ (productOf p q)) (timesTerm-value c m q)
-      ∙ ap (λ (x : ℤ). (c *ℤ varsValue ρ m) *ℤ termsValue ρ q +ℤ x) (productOf-value p q)
-      ∙ sym (+ℤ-*ℤ (c *ℤ varsValue ρ m) (termsValue ρ p) (termsValue ρ q))
+      ∙ ap (λ (x : ℤ). x +ℤ termsValue (productOf p q)) (timesTerm-value c m q)
+      ∙ ap (λ (x : ℤ). (c *ℤ varsValue m) *ℤ termsValue q +ℤ x) (productOf-value p q)
+      ∙ sym (+ℤ-*ℤ (c *ℤ varsValue m) (termsValue p) (termsValue q))
 
-  negationOf-value : (p : Terms) → termsValue ρ (negationOf p) ≡ negℤ (termsValue ρ p)
+  negationOf-value : (p : Terms) → termsValue (negationOf p) ≡ negℤ (termsValue p)
   unfolding termsValue
   negationOf-value none = refl
   negationOf-value (term c m p) =
-      ap (λ (x : ℤ). x +ℤ termsValue ρ (negationOf p)) (neg-times c (varsValue ρ m))
-      ∙ ap (λ (x : ℤ). negℤ (c *ℤ varsValue ρ m) +ℤ x) (negationOf-value p)
-      ∙ sym (negℤ-+ℤ (c *ℤ varsValue ρ m) (termsValue ρ p))
+      ap (λ (x : ℤ). x +ℤ termsValue (negationOf p)) (neg-times c (varsValue m))
+      ∙ ap (λ (x : ℤ). negℤ (c *ℤ varsValue m) +ℤ x) (negationOf-value p)
+      ∙ sym (negℤ-+ℤ (c *ℤ varsValue m) (termsValue p))
 
-  combined-value : (o : Op) (p q : Terms) → termsValue ρ (combined o p q) ≡ apply o (termsValue ρ p) (termsValue ρ q)
+  combined-value : (o : Op) (p q : Terms) → termsValue (combined o p q) ≡ apply o (termsValue p) (termsValue q)
   combined-value plus p q = sumOf-value p q
-  combined-value minus p q = sumOf-value p (negationOf q) ∙ ap (λ (x : ℤ). termsValue ρ p +ℤ x) (negationOf-value q)
+  combined-value minus p q = sumOf-value p (negationOf q) ∙ ap (λ (x : ℤ). termsValue p +ℤ x) (negationOf-value q)
   combined-value times p q = productOf-value p q
 
   -- the normal form has the expression's value
-  normal-value : (a : Expr) → termsValue ρ (normal a) ≡ value ρ a
+  normal-value : (a : Expr) → termsValue (normal a) ≡ value ρ a
   unfolding termsValue varsValue
-  normal-value (var i) = +ℤ-idr (pos 1 *ℤ (getD ρ i (pos 0) *ℤ pos 1)) ∙ one-times (getD ρ i (pos 0) *ℤ pos 1) ∙ *ℤ-comm (getD ρ i (pos 0)) (pos 1) ∙ one-times (getD ρ i (pos 0))
+  normal-value (var i) = +ℤ-idr (pos 1 *ℤ (at i *ℤ pos 1)) ∙ one-times (at i *ℤ pos 1) ∙ *ℤ-comm (at i) (pos 1) ∙ one-times (at i)
   normal-value (lit z) = keep-value z [] none ∙ +ℤ-idr (z *ℤ pos 1) ∙ *ℤ-comm z (pos 1) ∙ one-times z
-  normal-value (op o a b) = combined-value o (normal a) (normal b) ∙ ap (λ (x : ℤ). apply o x (termsValue ρ (normal b))) (normal-value a) ∙ ap (λ (x : ℤ). apply o (value ρ a) x) (normal-value b)
+  normal-value (op o a b) =
+      combined-value o (normal a) (normal b)
+      ∙ ap (λ (x : ℤ). apply o x (termsValue (normal b))) (normal-value a)
+      ∙ ap (λ (x : ℤ). apply o (value ρ a) x) (normal-value b)
 
 -- ---- the law that is used: the same normal form, the same value
 

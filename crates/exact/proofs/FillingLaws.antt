@@ -1,13 +1,14 @@
--- Laws of lists that are filled front to back. A loop keeps `dst ≡ sets dst₀ at (runs n f)`: n runs stored from `at` on (`sets` is the kit's, `lib.Seq`).
--- `runs-none` opens it, `runs-more` closes a turn, and `sets-over` says at the end that the result lies over the front of what stood there. Rows of runs are runs of rows: nothing here speaks of a width.
-use mathlib.Core.Path.{_≡_, refl, sym, _∙_, ap, subst}
+-- Laws of lists that are filled front to back, run by run. `sets l at vs` (the kit's, `lib.Seq`) is l with vs stored from `at` on.
+-- A loop over the whole of a lent output keeps `out ≡ over (runs n f) old`: `over-none` opens it and `over-more` closes a turn.
+-- An inner loop, which begins at a place, keeps `out ≡ sets old at (runs n f)`: `runs-none` and `runs-more`. A row of runs is one run of the outer loop.
+use mathlib.Core.Path.{_≡_, refl, sym, _∙_, ap}
 use mathlib.Core.List.{List, [], _∷_, _++_}
 use Prim.Native.Nat.{ℕ, zero, suc, _+_, _*_, _-_, _<_, _≤_}
 use native.Mathlib.Nat.{add-zero, zero-add, add-suc, suc-add, suc-mul, zero-mul}
 use native.Mathlib.Numerals.{add-one}
 use native.Mathlib.Omega.{arith}
 use lib.ListN.{length, take, drop, getD, set, length-append, length-drop, List·getD-append}
-use lib.Seq.{sets, sets-eq, length-sets, take-at, drop-at, getD-append-add, drop-append-add, drop-drop}
+use lib.Seq.{take-suc, sets, sets-eq, take-at, drop-at, getD-append-add, drop-append-add, drop-drop}
 use lib.Arith.{digits-lt}
 use native.Mathlib.Decide.{decLt}
 use Rattle.exact.specs.Filling.{over, runs}
@@ -26,7 +27,8 @@ module _ {ℓ} {A : Type ℓ} where
       length-append (runs n f) (f n) ∙ omega (arith, length-runs n s f (λ i k. h i (omega arith)), h n (omega arith), suc-mul n s)
 
   -- the number at place r of run i
-  pub getD-runs : (n s : ℕ) (f : ℕ → List A) (d : A) → ((i : ℕ) → i < n → length (f i) ≡ s) → (i r : ℕ) → i < n → r < s → getD (runs n f) (i * s + r) d ≡ getD (f i) r d
+  pub getD-runs : (n s : ℕ) (f : ℕ → List A) (d : A) → ((i : ℕ) → i < n → length (f i) ≡ s) →
+      (i r : ℕ) → i < n → r < s → getD (runs n f) (i * s + r) d ≡ getD (f i) r d
   unfolding runs
   getD-runs zero s f d h i r p q = absurd (omega arith)
   getD-runs (suc n) s f d h i r p q = go (getD-runs n s f d (λ j k. h j (omega arith)) i r) (decLt i n)
@@ -46,25 +48,31 @@ module _ {ℓ} {A : Type ℓ} where
   pub runs-same : (n : ℕ) (f g : ℕ → List A) → ((i : ℕ) → i < n → f i ≡ g i) → runs n f ≡ runs n g
   unfolding runs
   runs-same zero f g h = refl
-  runs-same (suc n) f g h = ap (λ (l : List A). l ++ f n) (runs-same n f g (λ i k. h i (omega arith))) ∙ ap (λ (l : List A). runs n g ++ l) (h n (omega arith))
+  runs-same (suc n) f g h =
+      ap (λ (l : List A). l ++ f n) (runs-same n f g (λ i k. h i (omega arith))) ∙ ap (λ (l : List A). runs n g ++ l) (h n (omega arith))
+
+  -- a list is the runs of its single elements
+  pub runs-of-list : (d : A) (l : List A) (n : ℕ) → n ≤ length l → runs n (λ (i : ℕ). getD l i d ∷ []) ≡ take n l
+  unfolding runs
+  runs-of-list d l zero h = refl
+  runs-of-list d l (suc n) h = ap (λ (x : List A). x ++ (getD l n d ∷ [])) (runs-of-list d l n (omega arith)) ∙ sym (take-suc l n d h)
 
   -- ---- storing one after the other
 
   -- stores that follow one another are one store
   pub sets-append : (xs : List A) (l : List A) (at : ℕ) (ys : List A) → sets (sets l at xs) (at + length xs) ys ≡ sets l at (xs ++ ys)
   sets-append [] l at ys = ap (λ (k : ℕ). sets l k ys) (add-zero at)
-  sets-append (x ∷ xs) l at ys = ap (λ (k : ℕ). sets (sets (set l at x) (suc at) xs) k ys) (add-suc at (length xs) ∙ sym (suc-add at (length xs))) ∙ sets-append xs (set l at x) (suc at) ys
-
-  -- one number stored is a store of one
-  pub set-one : (l : List A) (at : ℕ) (a : A) → set l at a ≡ sets l at (a ∷ [])
-  set-one l at a = refl
+  sets-append (x ∷ xs) l at ys =
+      ap (λ (k : ℕ). sets (sets (set l at x) (suc at) xs) k ys) (add-suc at (length xs) ∙ sym (suc-add at (length xs)))
+      ∙ sets-append xs (set l at x) (suc at) ys
 
   pub runs-none : (l : List A) (at : ℕ) (f : ℕ → List A) → l ≡ sets l at (runs 0 f)
   unfolding runs
   runs-none l at f = refl
 
   -- one run more, at the place where n runs of length s end
-  pub runs-more : (l : List A) (at n s : ℕ) (f : ℕ → List A) → ((i : ℕ) → i < n → length (f i) ≡ s) → sets (sets l at (runs n f)) (at + n * s) (f n) ≡ sets l at (runs (n + 1) f)
+  pub runs-more : (l : List A) (at n s : ℕ) (f : ℕ → List A) → ((i : ℕ) → i < n → length (f i) ≡ s) →
+      sets (sets l at (runs n f)) (at + n * s) (f n) ≡ sets l at (runs (n + 1) f)
   runs-more l at n s f h =
       ap (λ (k : ℕ). sets (sets l at (runs n f)) (at + k) (f n)) (sym (length-runs n s f h))
       ∙ sets-append (runs n f) l at (f n)
@@ -88,9 +96,20 @@ module _ {ℓ} {A : Type ℓ} where
   unfolding over
   drop-over result old = drop-at result (drop (length result) old) (length result) refl
 
-  pub over-none : (old : List A) → over [] old ≡ old
-  unfolding over
-  over-none old = refl
+  pub over-none : (old : List A) (f : ℕ → List A) → old ≡ over (runs 0 f) old
+  unfolding over runs
+  over-none old f = refl
+
+  -- one run more, where n runs of length s lie over the front
+  pub over-more : (old : List A) (n s : ℕ) (f : ℕ → List A) → ((i : ℕ) → i < n + 1 → length (f i) ≡ s) → (n + 1) * s ≤ length old →
+      sets (over (runs n f) old) (n * s) (f n) ≡ over (runs (n + 1) f) old
+  over-more old n s f h fits =
+      let long : length (runs (n + 1) f) ≡ (n + 1) * s = length-runs (n + 1) s f h in
+      let before : length (runs n f) ≡ n * s = length-runs n s f (λ i k. h i (omega arith)) in
+      ap (λ (l : List A). sets l (n * s) (f n)) (sym (sets-over (runs n f) old (omega arith)))
+      ∙ ap (λ (k : ℕ). sets (sets old 0 (runs n f)) k (f n)) (sym (zero-add (n * s)))
+      ∙ runs-more old 0 n s f (λ i k. h i (omega arith))
+      ∙ sets-over (runs (n + 1) f) old (omega arith)
 
   -- what stood in the front before does not matter
   pub over-over : (result before old : List A) → length before ≤ length result → over result (over before old) ≡ over result old

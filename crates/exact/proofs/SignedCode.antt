@@ -1,20 +1,42 @@
--- The needs of signed code. A signed local is its bits, so a need about `a * b + c` reads each operand back from its bits, one layer `toZ w (ofZ w ..)` for each operation.
--- An expression over leaves has the readings that such needs show: what the code holds (`held`), what an operation is asked to fit (`asked`), and the exact value.
--- `operation-fits L e tt` proves the need of the outermost operation of e, and `reads-exact L e tt` that what is held is the exact value. A leaf is made by `exactly`, `kept`, `widened` or `unsigned`.
-use mathlib.Core.Path.{_≡_, refl, sym, _∙_, ap, subst₂}
+-- The needs of signed code. A signed local is its bits, so a need about `a * b + c` reads each operand back from its bits, a layer `toZ w (ofZ w ..)` for each
+-- operation. An expression over leaves has the readings that such needs show: the bits that the code holds (`held`) and the exact value.
+-- `operation-fits L o a b tt` proves that an operation's result fits, and `reads-exact L e tt` that what is held reads as the exact value.
+-- A leaf is made by `of-number`, `of-bits`, `of-narrow` or `of-unsigned`. A signed test is read by `less-taken` and its like.
+use mathlib.Core.Path.{_≡_, sym, _∙_, ap, subst, subst₂}
 use mathlib.Core.List.{List, [], _∷_, map}
-use mathlib.Core.Bool.{Bool, true, false, _&&_}
-use Prim.Native.Nat.{ℕ, zero, suc, _^_, _≤_, _<_}
+use mathlib.Core.Bool.{Bool, true, false, not, _&&_}
+use Prim.Native.Nat.{ℕ, zero, suc, _^_, _≤_}
 use native.Mathlib.Nat.{lt-of-le-of-lt, le-refl}
-use lib.Dec.{T, ltb, leb, ltb→lt}
+use lib.Dec.{T, ltb, leb, ltb→lt, lt→ltb, nleb→lt}
+use lib.Signed.{ltZ, leZ, _≤ℤ_, _<ℤ_, ltZ-yes, ltZ-no, leZ-yes}
 use lib.ListN.{getD}
 use lib.Pow.{pow-pos}
 use lib.IntN.{ℤ, pos, negsuc, natAbs}
 use mir.Syntax.{Width}
-use mir.Val.{SFits, Fits, bits, hbits, toZ, ofZ}
+use mir.Val.{SFits, hbits, toZ, ofZ}
 use mir.Facts.{toZ-ofZ, toZ-pos, sfits-widen, and-yes}
 use Rattle.exact.proofs.Expressions.{Op, Expr, var, lit, op, apply, value}
-use Rattle.exact.proofs.Sizes.{bound, Sized, value-bound, reach-bound, reach, fits-of-size, size-of-fits}
+use Rattle.exact.proofs.Sizes.{bound, Sized, value-bound, fits-of-size}
+
+-- ---- what a signed test says where it was taken, and where it was left
+
+pub less-taken : (a b : ℤ) → ltZ a b ≡ true → a <ℤ b
+less-taken a b e = ltZ-yes (subst T (sym e) tt)
+
+pub less-left : (a b : ℤ) → ltZ a b ≡ false → b ≤ℤ a
+less-left a b e = ltZ-no {a = a} {b = b} (subst (λ (t : Bool). T (not t)) (sym e) tt)
+
+pub at-most-taken : (a b : ℤ) → leZ a b ≡ true → a ≤ℤ b
+at-most-taken a b e = leZ-yes (subst T (sym e) tt)
+
+pub at-most-left : (a b : ℤ) → leZ a b ≡ false → b <ℤ a
+at-most-left a b e = record { lt = go a b (subst (λ (t : Bool). T (not t)) (sym e) tt) }
+  where
+    go : (a b : ℤ) → T (not (leZ a b)) → T (ltZ b a)
+    go (pos a) (pos b) t = lt→ltb b a (nleb→lt a b t)
+    go (pos a) (negsuc b) t = tt
+    go (negsuc a) (pos b) t = absurd t
+    go (negsuc a) (negsuc b) t = lt→ltb a b (nleb→lt b a t)
 
 -- ---- leaves: the bits held, what they stand for, and a bound for its size
 
@@ -26,21 +48,28 @@ pub record Leaf (w : Width) : Type 0 where
   pub within : natAbs exact ≤ size
 
 -- a parameter, or a number that was read from a slice or an array
-abbrev pub exactly : {w : Width} {n : ℕ} (z : ℤ) → SFits w z → natAbs z ≤ n → Leaf w
-exactly {w} {n} z f h = record { held-bits = ofZ w z; exact = z; size = n; reads = toZ-ofZ f; within = h }
+abbrev pub of-number : {w : Width} {n : ℕ} (z : ℤ) → SFits w z → natAbs z ≤ n → Leaf w
+of-number {w} {n} z f h = record { held-bits = ofZ w z; exact = z; size = n; reads = toZ-ofZ f; within = h }
 
 -- a variable of a loop, or what a call gave: its bits, with the equation that says what they stand for
-abbrev pub kept : {w : Width} {n : ℕ} {z : ℤ} (b : ℕ) → toZ w b ≡ z → natAbs z ≤ n → Leaf w
-kept {w} {n} {z} b e h = record { held-bits = b; exact = z; size = n; reads = e; within = h }
+abbrev pub of-bits : {w : Width} {n : ℕ} {z : ℤ} (b : ℕ) → toZ w b ≡ z → natAbs z ≤ n → Leaf w
+of-bits {w} {n} {z} b e h = record { held-bits = b; exact = z; size = n; reads = e; within = h }
 
 -- a signed number of width v cast to w
-abbrev pub widened : {v w : Width} {n : ℕ} (z : ℤ) → SFits v z → T (leb (hbits v) (hbits w)) → natAbs z ≤ n → Leaf w
-widened {v} {w} {n} z f t h =
-    record { held-bits = ofZ w (toZ v (ofZ v z)); exact = z; size = n; reads = ap (λ (x : ℤ). toZ w (ofZ w x)) (toZ-ofZ f) ∙ toZ-ofZ (sfits-widen t f); within = h }
+abbrev pub of-narrow : {v w : Width} {n : ℕ} (z : ℤ) → SFits v z → T (leb (hbits v) (hbits w)) → natAbs z ≤ n → Leaf w
+of-narrow {v} {w} {n} z f t h =
+    record {
+      held-bits = ofZ w (toZ v (ofZ v z));
+      exact = z;
+      size = n;
+      reads = ap (λ (x : ℤ). toZ w (ofZ w x)) (toZ-ofZ f) ∙ toZ-ofZ (sfits-widen t f);
+      within = h;
+    }
 
 -- an unsigned number cast to a signed width that holds it
-abbrev pub unsigned : {w : Width} {n : ℕ} (m : ℕ) → m ≤ n → T (ltb n (2 ^ hbits w)) → Leaf w
-unsigned {w} {n} m h t = record { held-bits = m; exact = pos m; size = n; reads = toZ-pos w (lt-of-le-of-lt h (ltb→lt n (2 ^ hbits w) t)); within = h }
+abbrev pub of-unsigned : {w : Width} {n : ℕ} (m : ℕ) → m ≤ n → T (ltb n (2 ^ hbits w)) → Leaf w
+of-unsigned {w} {n} m h t =
+    record { held-bits = m; exact = pos m; size = n; reads = toZ-pos w (lt-of-le-of-lt h (ltb→lt n (2 ^ hbits w) t)); within = h }
 
 -- ---- the readings
 
@@ -57,12 +86,6 @@ module _ {w : Width} (L : List (Leaf w)) where
   held (lit z) = ofZ w z
   held (op o a b) = ofZ w (apply o (toZ w (held a)) (toZ w (held b)))
 
-  -- what the outermost operation is asked to fit
-  abbrev pub asked : Expr → ℤ
-  asked (var i) = getD exacts i (pos 0)
-  asked (lit z) = z
-  asked (op o a b) = apply o (toZ w (held a)) (toZ w (held b))
-
   -- no literal and no operation leaves the width
   abbrev pub stays : Expr → Bool
   stays (var i) = true
@@ -73,7 +96,8 @@ module _ {w : Width} (L : List (Leaf w)) where
   leaves-sized [] = tt
   leaves-sized (l ∷ K) = (l .within, leaves-sized K)
 
-  leaf-reads : (K : List (Leaf w)) (i : ℕ) → toZ w (getD (map (λ (l : Leaf w). l .held-bits) K) i 0) ≡ getD (map (λ (l : Leaf w). l .exact) K) i (pos 0)
+  leaf-reads : (K : List (Leaf w)) (i : ℕ) →
+      toZ w (getD (map (λ (l : Leaf w). l .held-bits) K) i 0) ≡ getD (map (λ (l : Leaf w). l .exact) K) i (pos 0)
   leaf-reads [] i = toZ-pos w (pow-pos (hbits w))
   leaf-reads (l ∷ K) zero = l .reads
   leaf-reads (l ∷ K) (suc i) = leaf-reads K i
@@ -82,8 +106,10 @@ module _ {w : Width} (L : List (Leaf w)) where
   exact-bound e = value-bound exacts sizes e (leaves-sized L)
 
   -- the operands are exact, so what is asked is the exact value, which the bound keeps within the width
-  operation : (o : Op) (a b : Expr) → toZ w (held a) ≡ value exacts a → toZ w (held b) ≡ value exacts b → T (ltb (bound sizes (op o a b)) (2 ^ hbits w)) → SFits w (apply o (toZ w (held a)) (toZ w (held b)))
-  operation o a b p q t = subst₂ (λ (x y : ℤ). SFits w (apply o x y)) (sym p) (sym q) (fits-of-size (exact-bound (op o a b)) t)
+  operation : (o : Op) (a b : Expr) → toZ w (held a) ≡ value exacts a → toZ w (held b) ≡ value exacts b →
+      T (ltb (bound sizes (op o a b)) (2 ^ hbits w)) → SFits w (apply o (toZ w (held a)) (toZ w (held b)))
+  operation o a b p q t =
+      subst₂ (λ (x y : ℤ). SFits w (apply o x y)) (sym p) (sym q) (fits-of-size (exact-bound (op o a b)) t)
 
   stays-parts : (o : Op) (a b : Expr) → T (stays (op o a b)) → T (stays a) × T (stays b) × T (ltb (bound sizes (op o a b)) (2 ^ hbits w))
   stays-parts o a b t =
@@ -99,10 +125,12 @@ module _ {w : Width} (L : List (Leaf w)) where
       let s = stays-parts o a b t in
       let p = reads-exact a (s .0) in
       let q = reads-exact b (s .1) in
-      toZ-ofZ (operation o a b p q (s .2)) ∙ ap (λ (x : ℤ). apply o x (toZ w (held b))) p ∙ ap (λ (x : ℤ). apply o (value exacts a) x) q
+      toZ-ofZ (operation o a b p q (s .2))
+      ∙ ap (λ (x : ℤ). apply o x (toZ w (held b))) p
+      ∙ ap (λ (x : ℤ). apply o (value exacts a) x) q
 
-  -- what the outermost operation is asked to fit, fits
-  pub operation-fits : (o : Op) (a b : Expr) → T (stays (op o a b)) → SFits w (asked (op o a b))
+  -- what an operation is asked to fit, fits
+  pub operation-fits : (o : Op) (a b : Expr) → T (stays (op o a b)) → SFits w (apply o (toZ w (held a)) (toZ w (held b)))
   operation-fits o a b t =
       let s = stays-parts o a b t in
       operation o a b (reads-exact a (s .0)) (reads-exact b (s .1)) (s .2)

@@ -1,9 +1,10 @@
--- Sizes of integers by computation. From a bound for the size of each variable, `bound` computes one for an expression; a closed test, answered by `tt`, then shows that the value fits a signed width.
--- `fits-by-size w ρ ns a s tt` proves `SFits w (value ρ a)` from `s : Sized ρ ns`. Where the whole range of a width counts, its least number included, go by `fits-between` in place of a size.
-use mathlib.Core.Path.{_≡_, refl, sym, ap, subst}
+-- Sizes of integers by computation. From a bound for the size of each variable, `bound` computes one for an expression; a closed test, answered by `tt`, then
+-- shows that the value fits a signed width: `fits-by-size w ρ ns a s tt` proves `SFits w (value ρ a)` from `s : Sized ρ ns`.
+-- A size loses the least number of a width. Where the whole range counts, go by `fits-between`.
+use mathlib.Core.Path.{sym, subst}
 use mathlib.Core.List.{List, [], _∷_}
 use Prim.Native.Nat.{ℕ, zero, suc, _+_, _*_, _^_, _≤_, _<_}
-use native.Mathlib.Nat.{le-trans, le-of-lt, le-refl, mul-le-mul, add-le-add, lt-of-le-of-lt}
+use native.Mathlib.Nat.{le-trans, le-refl, mul-le-mul, add-le-add, lt-of-le-of-lt}
 use native.Mathlib.Omega.{arith}
 use lib.Dec.{T, ltb, ltb→lt}
 use lib.ListN.{getD}
@@ -11,7 +12,8 @@ use lib.IntN.{ℤ, pos, negsuc, negℤ, natAbs}
 use lib.Signed.{mag, natAbs-le, _≤ℤ_, _<ℤ_}
 use mir.Syntax.{Width}
 use mir.Val.{SFits, hbits}
-use Rattle.exact.proofs.Order.{integers, size-sum, size-difference, size-product, posPart, negPart, negation-parts}
+use Rattle.exact.proofs.Parts.{integers, negation-parts}
+use Rattle.exact.proofs.Order.{size-sum, size-difference, size-product}
 use Rattle.exact.proofs.Expressions.{Op, plus, minus, times, Expr, var, lit, op, apply, value}
 
 -- ---- a bound for an expression

@@ -1,25 +1,27 @@
--- The laws of weighted sums: linear in the values, within the range of the values that count, near where the values are near, and blind to a value whose weight is 0.
--- Callers cite these and do not unfold `weightedSum`. `Forall₂` (mathlib) pairs weights with values, or values with values, term by term.
+-- The laws of weighted sums: linear in the values, in the range of the values that count, near where the values are near, and the same whatever stands at a
+-- weight of 0. Callers cite these and do not unfold `weightedSum`. `Forall₂` (mathlib) pairs weights with values, or values with values, term by term.
 use mathlib.Core.Path.{_≡_, refl, sym, _∙_, ap, subst}
-use mathlib.Core.Logic.{_⊎_, inl, inr, ⊎-elim}
+use mathlib.Core.Logic.{_⊎_, ⊎-elim}
 use mathlib.Core.List.{List, [], _∷_, map, zipWith, Forall₂, Forall₂·nil, Forall₂·cons}
 use Prim.Native.Nat.{ℕ, zero, suc, _+_, _*_, _≤_, _<_, zero-le}
-use native.Mathlib.Nat.{le-trans, le-refl, add-le-add, mul-le-mul, mul-le-mul-left}
+use native.Mathlib.Nat.{mul-le-mul, le-refl}
+use native.Mathlib.Numerals.{add-one}
 use native.Mathlib.Omega.{arith}
 use lib.ListN.{length, getD, drop, drop-of-length-le}
 use lib.Seq.{drop-cons}
 use lib.IntN.{ℤ, pos, negsuc, natAbs, _+ℤ_, _-ℤ_, _*ℤ_, +ℤ-assoc, zero-*ℤ, *ℤ-zero, *ℤ-comm}
-use native.Mathlib.Numerals.{add-one}
-use Rattle.exact.proofs.Integers.{*ℤ-+ℤ}
 use lib.Signed.{_≤ℤ_, ≤ℤ-refl}
 use Rattle.exact.specs.WeightedSum.{weightedSum, total, Within}
-use Rattle.exact.proofs.Order.{integers, +ℤ-mono, *ℤ-mono, ≡-≤ℤ, ≤ℤ-trans, size-sum, size-product, sum-parts, size-parts}
-use Rattle.exact.proofs.Expressions.{Expr, var, lit, _⊕_, _⊖_, _⊗_, identity}
+use Rattle.exact.proofs.Integers.{*ℤ-+ℤ}
+use Rattle.exact.proofs.Order.{+ℤ-mono, *ℤ-mono, ≡-≤ℤ, size-sum, size-product}
+use Rattle.exact.proofs.Expressions.{Expr, var, _⊕_, _⊖_, _⊗_, identity}
 
 -- ---- linear in the values
 
 -- f is linear in its two arguments together, and so is every weighted sum of what it gives
-linear : (f : ℤ → ℤ → ℤ) → f (pos 0) (pos 0) ≡ pos 0 → ((w v u x y : ℤ) → w *ℤ f v u +ℤ f x y ≡ f (w *ℤ v +ℤ x) (w *ℤ u +ℤ y)) → (ws vs us : List ℤ) → length vs ≡ length us → weightedSum ws (zipWith f vs us) ≡ f (weightedSum ws vs) (weightedSum ws us)
+linear : (f : ℤ → ℤ → ℤ) → f (pos 0) (pos 0) ≡ pos 0 →
+    ((w v u x y : ℤ) → w *ℤ f v u +ℤ f x y ≡ f (w *ℤ v +ℤ x) (w *ℤ u +ℤ y)) →
+    (ws vs us : List ℤ) → length vs ≡ length us → weightedSum ws (zipWith f vs us) ≡ f (weightedSum ws vs) (weightedSum ws us)
 unfolding weightedSum zipWith
 linear f z s [] vs us e = sym z
 linear f z s (w ∷ ws) [] [] e = sym z
@@ -28,16 +30,27 @@ linear f z s (w ∷ ws) (v ∷ vs) [] e = absurd (omega arith)
 linear f z s (w ∷ ws) (v ∷ vs) (u ∷ us) e =
     ap (λ (x : ℤ). w *ℤ f v u +ℤ x) (linear f z s ws vs us (omega arith)) ∙ s w v u (weightedSum ws vs) (weightedSum ws us)
 
-pub sum-of-values : (ws vs us : List ℤ) → length vs ≡ length us → weightedSum ws (zipWith _+ℤ_ vs us) ≡ weightedSum ws vs +ℤ weightedSum ws us
-sum-of-values = linear _+ℤ_ refl (λ w v u x y. identity (var 0 ⊗ (var 1 ⊕ var 2) ⊕ (var 3 ⊕ var 4)) ((var 0 ⊗ var 1 ⊕ var 3) ⊕ (var 0 ⊗ var 2 ⊕ var 4)) (w ∷ v ∷ u ∷ x ∷ y ∷ []) refl)
+-- a term of each list, over the weight, the two values and the two sums that follow: what `linear` asks of a sum and of a difference
+abbrev first : Expr
+first = var 0 ⊗ var 1 ⊕ var 3
 
-pub difference-of-values : (ws vs us : List ℤ) → length vs ≡ length us → weightedSum ws (zipWith _-ℤ_ vs us) ≡ weightedSum ws vs -ℤ weightedSum ws us
-difference-of-values = linear _-ℤ_ refl (λ w v u x y. identity (var 0 ⊗ (var 1 ⊖ var 2) ⊕ (var 3 ⊖ var 4)) ((var 0 ⊗ var 1 ⊕ var 3) ⊖ (var 0 ⊗ var 2 ⊕ var 4)) (w ∷ v ∷ u ∷ x ∷ y ∷ []) refl)
+abbrev second : Expr
+second = var 0 ⊗ var 2 ⊕ var 4
+
+pub sum-of-values : (ws vs us : List ℤ) → length vs ≡ length us →
+    weightedSum ws (zipWith _+ℤ_ vs us) ≡ weightedSum ws vs +ℤ weightedSum ws us
+sum-of-values =
+    linear _+ℤ_ refl (λ w v u x y. identity (var 0 ⊗ (var 1 ⊕ var 2) ⊕ (var 3 ⊕ var 4)) (first ⊕ second) (w ∷ v ∷ u ∷ x ∷ y ∷ []) refl)
+
+pub difference-of-values : (ws vs us : List ℤ) → length vs ≡ length us →
+    weightedSum ws (zipWith _-ℤ_ vs us) ≡ weightedSum ws vs -ℤ weightedSum ws us
+difference-of-values =
+    linear _-ℤ_ refl (λ w v u x y. identity (var 0 ⊗ (var 1 ⊖ var 2) ⊕ (var 3 ⊖ var 4)) (first ⊖ second) (w ∷ v ∷ u ∷ x ∷ y ∷ []) refl)
 
 pub multiple-of-values : (c : ℤ) (ws vs : List ℤ) → weightedSum ws (map (λ (v : ℤ). c *ℤ v) vs) ≡ c *ℤ weightedSum ws vs
 unfolding weightedSum
-multiple-of-values c [] vs = identity (lit (pos 0)) (var 0 ⊗ lit (pos 0)) (c ∷ []) refl
-multiple-of-values c (w ∷ ws) [] = identity (lit (pos 0)) (var 0 ⊗ lit (pos 0)) (c ∷ []) refl
+multiple-of-values c [] vs = sym (*ℤ-zero c)
+multiple-of-values c (w ∷ ws) [] = sym (*ℤ-zero c)
 multiple-of-values c (w ∷ ws) (v ∷ vs) =
     ap (λ (x : ℤ). w *ℤ (c *ℤ v) +ℤ x) (multiple-of-values c ws vs)
     ∙ identity (var 0 ⊗ (var 1 ⊗ var 2) ⊕ var 1 ⊗ var 3) (var 1 ⊗ (var 0 ⊗ var 2 ⊕ var 3)) (w ∷ c ∷ v ∷ weightedSum ws vs ∷ []) refl
@@ -74,7 +87,8 @@ term {m} {n} {w} {v} h = ⊎-elim absent present (h .1)
     )
 
 -- the sum lies in the range of the values that count, times the sum of the weights
-pub sum-range : {m n : ℤ} {ws vs : List ℤ} → Forall₂ (InRange m n) ws vs → ((m *ℤ total ws) ≤ℤ weightedSum ws vs) × (weightedSum ws vs ≤ℤ (n *ℤ total ws))
+pub sum-range : {m n : ℤ} {ws vs : List ℤ} → Forall₂ (InRange m n) ws vs →
+    ((m *ℤ total ws) ≤ℤ weightedSum ws vs) × (weightedSum ws vs ≤ℤ (n *ℤ total ws))
 unfolding weightedSum total
 sum-range {m} {n} Forall₂·nil = (≡-≤ℤ (*ℤ-zero m), ≡-≤ℤ (sym (*ℤ-zero n)))
 sum-range {m} {n} (Forall₂·cons {a = w} {b = v} {l₁ = ws} {l₂ = vs} h t) =
@@ -108,17 +122,26 @@ total-size w ws h = sizes-add w (total ws) (h .0) (total-not-negative ws (h .1))
     sizes-add (negsuc a) b h k = absurd (h .le)
 
 -- values that differ by at most e everywhere have sums that differ by at most e times the sum of the weights
-pub sum-distance : {e : ℕ} {vs us : List ℤ} (ws : List ℤ) → NotNegative ws → Forall₂ (Near e) vs us → natAbs (weightedSum ws vs -ℤ weightedSum ws us) ≤ e * natAbs (total ws)
+pub sum-distance : {e : ℕ} {vs us : List ℤ} (ws : List ℤ) → NotNegative ws → Forall₂ (Near e) vs us →
+    natAbs (weightedSum ws vs -ℤ weightedSum ws us) ≤ e * natAbs (total ws)
 unfolding weightedSum total
 sum-distance [] h d = zero-le
 sum-distance (w ∷ ws) h Forall₂·nil = zero-le
 sum-distance {e} (w ∷ ws) h (Forall₂·cons {a = v} {b = u} {l₁ = vs} {l₂ = us} d t) =
-    let rest = weightedSum ws vs -ℤ weightedSum ws us in
-    let apart : (w *ℤ v +ℤ weightedSum ws vs) -ℤ (w *ℤ u +ℤ weightedSum ws us) ≡ w *ℤ (v -ℤ u) +ℤ rest = identity ((var 0 ⊗ var 1 ⊕ var 3) ⊖ (var 0 ⊗ var 2 ⊕ var 4)) (var 0 ⊗ (var 1 ⊖ var 2) ⊕ (var 3 ⊖ var 4)) (w ∷ v ∷ u ∷ weightedSum ws vs ∷ weightedSum ws us ∷ []) refl in
-    let one : natAbs (w *ℤ (v -ℤ u)) ≤ natAbs w * e = subst (λ (x : ℕ). x ≤ natAbs w * e) (sym (size-product w (v -ℤ u))) (mul-le-mul-left (natAbs w) d) in
-    let more : natAbs rest ≤ e * natAbs (total ws) = sum-distance ws (h .1) t in
-    omega (arith, ap natAbs apart, size-sum (w *ℤ (v -ℤ u)) rest, ap (λ (x : ℕ). e * x) (total-size w ws h))
+    let x = weightedSum ws vs in
+    let y = weightedSum ws us in
+    let apart = identity (first ⊖ second) (var 0 ⊗ (var 1 ⊖ var 2) ⊕ (var 3 ⊖ var 4)) (w ∷ v ∷ u ∷ x ∷ y ∷ []) refl in
+    omega (
+      arith,
+      ap natAbs apart,
+      size-sum (w *ℤ (v -ℤ u)) (x -ℤ y),
+      size-product w (v -ℤ u),
+      mul-le-mul (le-refl (natAbs w)) d,
+      sum-distance ws (h .1) t,
+      ap (λ (n : ℕ). e * n) (total-size w ws h),
+    )
 
+-- a bound for the size of the sum, from bounds for weights and values
 pub sum-size : (m n : ℕ) (ws vs : List ℤ) → Within m ws → Within n vs → natAbs (weightedSum ws vs) ≤ length ws * (m * n)
 unfolding weightedSum
 sum-size m n [] vs h k = zero-le
@@ -129,28 +152,36 @@ sum-size m n (w ∷ ws) (v ∷ vs) h k =
 -- ---- a weight of 0 makes its value not matter
 
 -- the sums are equal where, at each index, the weight is 0 or the values are equal
-pub sum-same : (ws vs us : List ℤ) → length vs ≡ length us → ((i : ℕ) → (getD ws i (pos 0) ≡ pos 0) ⊎ (getD vs i (pos 0) ≡ getD us i (pos 0))) → weightedSum ws vs ≡ weightedSum ws us
+pub sum-same : (ws vs us : List ℤ) → length vs ≡ length us →
+    ((i : ℕ) → (getD ws i (pos 0) ≡ pos 0) ⊎ (getD vs i (pos 0) ≡ getD us i (pos 0))) → weightedSum ws vs ≡ weightedSum ws us
 unfolding weightedSum
 sum-same [] vs us e h = refl
 sum-same (w ∷ ws) [] [] e h = refl
 sum-same (w ∷ ws) [] (u ∷ us) e h = absurd (omega arith)
 sum-same (w ∷ ws) (v ∷ vs) [] e h = absurd (omega arith)
 sum-same (w ∷ ws) (v ∷ vs) (u ∷ us) e h =
-    ap (λ (x : ℤ). x +ℤ weightedSum ws vs) (⊎-elim (λ z. ap (λ (x : ℤ). x *ℤ v) z ∙ zero-*ℤ v ∙ sym (ap (λ (x : ℤ). x *ℤ u) z ∙ zero-*ℤ u)) (λ q. ap (λ (x : ℤ). w *ℤ x) q) (h zero))
+    ap (λ (x : ℤ). x +ℤ weightedSum ws vs) (⊎-elim (λ z. none z v ∙ sym (none z u)) (λ q. ap (λ (x : ℤ). w *ℤ x) q) (h zero))
     ∙ ap (λ (x : ℤ). w *ℤ u +ℤ x) (sum-same ws vs us (omega arith) (λ i. h (suc i)))
+  where
+    none : w ≡ pos 0 → (x : ℤ) → w *ℤ x ≡ pos 0
+    none z x = ap (λ (y : ℤ). y *ℤ x) z ∙ zero-*ℤ x
 
 -- ---- for a loop that adds term by term
 
 -- s with the term at i added, and the rest after i, is s with the rest from i on
-pub sum-turn : (s : ℤ) (ws vs : List ℤ) (i : ℕ) → i < length ws → i < length vs → (s +ℤ getD ws i (pos 0) *ℤ getD vs i (pos 0)) +ℤ weightedSum (drop (i + 1) ws) (drop (i + 1) vs) ≡ s +ℤ weightedSum (drop i ws) (drop i vs)
+pub sum-turn : (s : ℤ) (ws vs : List ℤ) (i : ℕ) → i < length ws → i < length vs →
+    (s +ℤ getD ws i (pos 0) *ℤ getD vs i (pos 0)) +ℤ weightedSum (drop (i + 1) ws) (drop (i + 1) vs) ≡ s +ℤ weightedSum (drop i ws) (drop i vs)
 unfolding weightedSum
-sum-turn s ws vs i h k = rw (add-one, drop-cons ws i (pos 0), drop-cons vs i (pos 0)) (+ℤ-assoc s (getD ws i (pos 0) *ℤ getD vs i (pos 0)) (weightedSum (drop (suc i) ws) (drop (suc i) vs)))
+sum-turn s ws vs i h k =
+    rw (add-one, drop-cons ws i (pos 0), drop-cons vs i (pos 0))
+    (+ℤ-assoc s (getD ws i (pos 0) *ℤ getD vs i (pos 0)) (weightedSum (drop (suc i) ws) (drop (suc i) vs)))
 
 -- after the last term nothing is left
 pub sum-end : (ws vs : List ℤ) (i : ℕ) → length ws ≤ i → weightedSum (drop i ws) (drop i vs) ≡ pos 0
 unfolding weightedSum
 sum-end ws vs i h = rw (drop-of-length-le ws)
 
+-- what bounds each number of a list bounds the one at i
 pub within-at : (n : ℕ) (zs : List ℤ) → Within n zs → (i : ℕ) → natAbs (getD zs i (pos 0)) ≤ n
 within-at n [] h i = zero-le
 within-at n (z ∷ zs) h zero = h .0

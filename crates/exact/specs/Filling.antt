@@ -1,4 +1,5 @@
--- Lists that are written front to back. Contracts say with `over` what a lent output holds afterwards; proofs use the laws of `proofs/FillingLaws.antt`.
+-- Lists that are written front to back. Contracts say with `over` what a lent output holds afterwards.
+-- Proofs use the laws of `proofs/FillingLaws.antt`.
 use mathlib.Core.Path.{_≡_, refl}
 use mathlib.Core.List.{List, [], _∷_, _++_}
 use Prim.Native.Nat.{ℕ, zero, suc}

@@ -1,4 +1,5 @@
--- Rounding, document 01, "Surface point": to the nearest whole number, halves upwards. Contracts cite `rounded`; proofs use its laws (`proofs/RoundingLaws.antt`).
+-- Rounding, document 01, "Surface point": to the nearest whole number, halves upwards.
+-- Contracts cite `rounded`; proofs use its laws (`proofs/RoundingLaws.antt`).
 use mathlib.Core.Path.{_≡_, refl}
 use Prim.Native.Nat.{ℕ, _*_, _/_}
 use lib.IntN.{ℤ, pos, negsuc, _+ℤ_, _*ℤ_}

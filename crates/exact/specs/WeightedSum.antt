@@ -1,4 +1,5 @@
--- Weighted sums. Each formula of document 01 is a sum of whole weights times integers over a whole divisor. Contracts cite `weightedSum`; proofs use its laws (`proofs/WeightedSumLaws.antt`).
+-- Weighted sums. Each formula of document 01 is a sum of whole weights times integers over a whole divisor.
+-- Contracts cite `weightedSum`; proofs use its laws (`proofs/WeightedSumLaws.antt`).
 use mathlib.Core.Path.{_≡_, refl}
 use mathlib.Core.List.{List, [], _∷_}
 use Prim.Native.Nat.{ℕ, _^_, _≤_}

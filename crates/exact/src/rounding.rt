@@ -1,10 +1,11 @@
+// Rounding of a quotient of signed numbers. Division in the language goes towards zero; that slip is shut out here, once.
 ghost use mathlib.Core.Path.{_≡_};
 ghost use Prim.Native.Nat.{_<_, _≤_, _^_};
 ghost use lib.IntN.{pos, natAbs};
 ghost use lib.Signed.{_<ℤ_};
 ghost use Rattle.exact.specs.Rounding.{floorQuotient, rounded};
 
-// a / b rounded down. Division in the language goes towards zero, so below zero the quotient of -1 - a is taken, which is not negative.
+// a / b rounded down. Below zero the quotient of -1 - a is taken, which is not negative, and mirrored back.
 fn floor_quotient(a: i64, b: i64) -> i64
     requires { ⌜ pos 0 <ℤ b ⌝ }
     ensures { λ r. ⌜ r ≡ floorQuotient a (natAbs b) ⌝ }
@@ -12,7 +13,7 @@ fn floor_quotient(a: i64, b: i64) -> i64
     if a < 0 { -1 - (-1 - a) / b } else { a / b }
 }
 
-// n / d to the nearest whole number, halves upwards.
+// n / d to the nearest whole number, halves upwards. The bound on n keeps 2n + d within an i64; a weighted sum meets it.
 pub fn round_quotient(n: i64, d: u32) -> i64
     requires { ⌜ (0 < d) × (natAbs n ≤ 2 ^ 61) ⌝ }
     ensures { λ r. ⌜ r ≡ rounded n d ⌝ }

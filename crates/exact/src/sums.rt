@@ -1,9 +1,11 @@
+// Weighted sums of signed numbers: three functions for the three lengths, over one loop.
 ghost use mathlib.Core.Path.{_≡_};
 ghost use Prim.Native.Nat.{_≤_, _^_};
 ghost use lib.ListN.{length};
 ghost use Rattle.exact.specs.WeightedSum.{Summed, Within};
 
-// weights times values, added up. Nine terms whose weights are at most 2 to the power 26 in size stay below 2 to the power 61, whatever the values are.
+// Weights times values, added up. Nine terms whose weights are at most 2 to the power 26 in size stay below 2 to the power 61,
+// whatever the values are.
 fn weighted_sum(weights: &[i64], values: &[i32]) -> i64
     requires { ⌜ (length (now weights) ≡ length (now values)) × (length (now weights) ≤ 9) × Within (2 ^ 26) (now weights) ⌝ }
     ensures { λ r. ⌜ Summed (now (weights .entry)) (now (values .entry)) r ⌝ }

@@ -1,25 +1,26 @@
--- `exact::rounding::round_quotient` meets its contract: its sums and products stay within 64 bits, so they are exact, and the floor of them is the definition.
-use mathlib.Core.Path.{_≡_, refl, sym, _∙_, ap, subst}
+-- `exact::rounding::round_quotient` meets its contract: its sums and products stay within 64 bits, so they are exact, and the floor of them is
+-- the definition.
+use mathlib.Core.Path.{sym, _∙_, ap, subst}
 use mathlib.Core.List.{List, [], _∷_}
-use Prim.Native.Nat.{ℕ, _*_, _^_, _<_, _≤_}
+use Prim.Native.Nat.{_*_, _^_, _<_}
 use native.Mathlib.Nat.{le-of-lt}
 use native.Mathlib.Omega.{arith}
 use lib.IntN.{ℤ, pos, natAbs, _+ℤ_, _*ℤ_}
 use lib.Signed.{_<ℤ_}
 use mir.Syntax.{w64}
-use mir.Val.{SFits, toZ, ofZ}
+use mir.Val.{toZ}
 use mir.Facts.{toZ-ofZ}
 use borrow.Author.Needs.{needs, sfits-of}
 use Rattle.exact.specs.Rounding.{floorQuotient, rounded}
-use Rattle.exact.proofs.Order.{parts-lt}
+use Rattle.exact.proofs.Parts.{parts-lt}
 use Rattle.exact.proofs.Expressions.{Expr, var, lit, _⊕_, _⊗_, plus, times}
-use Rattle.exact.proofs.SignedCode.{Leaf, exactly, unsigned, held, reads-exact, operation-fits}
+use Rattle.exact.proofs.SignedCode.{Leaf, of-number, of-unsigned, held, reads-exact, operation-fits}
 use Rattle.exact.proofs.rounding.round_quotient.Statement.{statement}
 use Rattle.exact.proofs.rounding.round_quotient.Tie as tie
 
 -- n, and d cast to an i64
 abbrev leaves : tie.Start → List (Leaf w64)
-leaves c = exactly (c .args .n) (c .fits .n) (c .pre .1) ∷ unsigned {n = 2 ^ 32} (c .args .d) (le-of-lt (c .fits .d .fits)) tt ∷ []
+leaves c = of-number (c .args .n) (c .fits .n) (c .pre .1) ∷ of-unsigned {n = 2 ^ 32} (c .args .d) (le-of-lt (c .fits .d .fits)) tt ∷ []
 
 abbrev numerator : Expr
 numerator = lit (pos 2) ⊗ var 0 ⊕ var 1

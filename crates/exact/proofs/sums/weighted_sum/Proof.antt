@@ -1,22 +1,23 @@
-use mathlib.Core.Path.{_≡_, refl, sym, _∙_, ap, subst}
+-- `exact::sums::weighted_sum` meets its contract. The loop's invariant: the sum so far and the weighted sum of the rest are the whole sum,
+-- and the sum so far is at most 2 ^ 57 in size for each term.
+use mathlib.Core.Path.{_≡_, refl, sym, _∙_, ap}
 use mathlib.Core.List.{List, [], _∷_}
-use Prim.Native.Nat.{ℕ, _+_, _-_, _*_, _^_, _<_, _≤_}
+use Prim.Native.Nat.{ℕ, _+_, _-_, _*_, _^_, _≤_}
 use native.Mathlib.Omega.{arith}
 use lib.ListN.{length, getD, drop}
 use lib.IntN.{ℤ, pos, natAbs, _+ℤ_, _*ℤ_, +ℤ-idl, +ℤ-idr}
 use mir.Syntax.{w32, w64}
-use mir.Val.{SFits, toZ, ofZ}
+use mir.Val.{SFits, toZ}
 use mir.Facts.{toZ-ofZ, sfits-widen}
 use borrow.Author.Needs.{needs, sfits-of}
-use Rattle.exact.specs.WeightedSum.{weightedSum, Within, Summed}
+use Rattle.exact.specs.WeightedSum.{weightedSum}
 use Rattle.exact.proofs.Expressions.{Expr, var, _⊕_, _⊗_, plus, times}
 use Rattle.exact.proofs.Sizes.{size-of-fits, reach-bound}
-use Rattle.exact.proofs.SignedCode.{Leaf, exactly, kept, widened, reads-exact, operation-fits}
+use Rattle.exact.proofs.SignedCode.{Leaf, of-number, of-bits, of-narrow, reads-exact, operation-fits}
 use Rattle.exact.proofs.WeightedSumLaws.{sum-turn, sum-end, within-at}
 use Rattle.exact.proofs.sums.weighted_sum.Statement.{statement}
 use Rattle.exact.proofs.sums.weighted_sum.Tie as tie
 use Rattle.exact.proofs.sums.weighted_sum.Reads as reads
-use Rattle.exact.proofs.sums.weighted_sum.Lts as lts
 
 abbrev Inv-loop : tie.InvT-loop
 Inv-loop weights values sum₀ i₀ sum i =
@@ -46,9 +47,9 @@ module _ (c : tie.After-v Inv-loop μ-loop) where
 
   abbrev leaves : List (Leaf w64)
   leaves =
-      kept {n = 9 * 2 ^ 57} (c .before .before .before .loop .sum) refl (omega arith)
-      ∷ exactly (getD weights i (pos 0)) (sfits-of (c .before .w .given)) (weight-size)
-      ∷ widened (getD values i (pos 0)) value-fits tt (size-of-fits value-fits)
+      of-bits {n = 9 * 2 ^ 57} (c .before .before .before .loop .sum) refl (omega arith)
+      ∷ of-number (getD weights i (pos 0)) (sfits-of (c .before .w .given)) (weight-size)
+      ∷ of-narrow (getD values i (pos 0)) value-fits tt (size-of-fits value-fits)
       ∷ []
 
   -- one term more
@@ -89,7 +90,10 @@ loop-again : tie.Need-loop-again Inv-loop μ-loop
 loop-again c =
     let sum = toZ w64 (c .before .before .before .loop .sum) in
     let reads = reads-exact (leaves c) (next c) tt in
-    let grown = reach-bound plus sum (getD (weights c) (i c) (pos 0) *ℤ getD (values c) (i c) (pos 0)) (c .before .before .before .loop .inv .2) (reach-bound times (getD (weights c) (i c) (pos 0)) (getD (values c) (i c) (pos 0)) (weight-size c) (size-of-fits (value-fits c))) in (
+    let w = getD (weights c) (i c) (pos 0) in
+    let v = getD (values c) (i c) (pos 0) in
+    let term = reach-bound times w v (weight-size c) (size-of-fits (value-fits c)) in
+    let grown = reach-bound plus sum (w *ℤ v) (c .before .before .before .loop .inv .2) term in (
       search needs,
       ap (λ (z : ℤ). z +ℤ weightedSum (drop (i c + 1) (weights c)) (drop (i c + 1) (values c))) reads
           ∙ sum-turn sum (weights c) (values c) (i c) (search needs) (search needs)
@@ -100,10 +104,12 @@ loop-again c =
 returns : tie.Need-returns Inv-loop μ-loop
 returns c =
     let sum = toZ w64 (c .before .loop .sum) in
+    let weights = c .before .before .args .weights .now in
+    let values = c .before .before .args .values .now in
     record {
       sum =
           sym (+ℤ-idr sum)
-          ∙ ap (λ (z : ℤ). sum +ℤ z) (sym (sum-end (c .before .before .args .weights .now) (c .before .before .args .values .now) (c .before .loop .i) (search needs)))
+          ∙ ap (λ (z : ℤ). sum +ℤ z) (sym (sum-end weights values (c .before .loop .i) (search needs)))
           ∙ c .before .loop .inv .1;
       size = omega arith;
     }
