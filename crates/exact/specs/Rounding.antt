@@ -9,6 +9,15 @@ unfoldable pub floorQuotient : ℤ → ℕ → ℤ
 floorQuotient (pos a) d = pos (a / d)
 floorQuotient (negsuc a) d = negsuc (a / d)
 
+-- worked cases: -7/2 goes down to -4, and -8/2 is -4
+seven-halves-below : floorQuotient (negsuc 6) 2 ≡ negsuc 3
+unfolding floorQuotient
+seven-halves-below = refl
+
+four-below : floorQuotient (negsuc 7) 2 ≡ negsuc 3
+unfolding floorQuotient
+four-below = refl
+
 -- n / d to the nearest whole number, halves upwards, for d above 0: n / d plus a half, rounded down. Over 2d, n / d is 2n and a half is d.
 unfoldable pub rounded : ℤ → ℕ → ℤ
 rounded n d = floorQuotient (pos 2 *ℤ n +ℤ pos d) (2 * d)

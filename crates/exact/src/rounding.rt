@@ -13,9 +13,9 @@ fn floor_quotient(a: i64, b: i64) -> i64
     if a < 0 { -1 - (-1 - a) / b } else { a / b }
 }
 
-// n / d to the nearest whole number, halves upwards. The bound on n keeps 2n + d within an i64; a weighted sum meets it.
-pub fn round_quotient(n: i64, d: u32) -> i64
-    requires { ⌜ (0 < d) × (natAbs n ≤ 2 ^ 61) ⌝ }
+// n / d to the nearest whole number, halves upwards. The bounds keep 2n + d within an i64; a weighted sum meets the one on n.
+pub fn round_quotient(n: i64, d: u64) -> i64
+    requires { ⌜ (0 < d) × (d ≤ 2 ^ 61) × (natAbs n ≤ 2 ^ 61) ⌝ }
     ensures { λ r. ⌜ r ≡ rounded n d ⌝ }
 {
     let wide = d as i64;

@@ -1,13 +1,15 @@
-// Weighted sums of signed numbers: three functions for the three lengths, over one loop.
+// Weighted sums and rounded weighted means of signed numbers, for three, six and nine terms: the controls of a vertex, of an edge's two
+// vertices, and of a triangle's three.
+use crate::rounding::round_quotient;
 ghost use mathlib.Core.Path.{_≡_};
-ghost use Prim.Native.Nat.{_≤_, _^_};
-ghost use lib.ListN.{length};
-ghost use Rattle.exact.specs.WeightedSum.{Summed, Within};
+ghost use Prim.Native.Nat.{_<_, _≤_, _^_};
+ghost use Rattle.exact.specs.WeightedSum.{weightedSum, Summable, Summed, Within};
+ghost use Rattle.exact.specs.Rounding.{rounded};
 
 // Weights times values, added up. Nine terms whose weights are at most 2 to the power 26 in size stay below 2 to the power 61,
 // whatever the values are.
 fn weighted_sum(weights: &[i64], values: &[i32]) -> i64
-    requires { ⌜ (length (now weights) ≡ length (now values)) × (length (now weights) ≤ 9) × Within (2 ^ 26) (now weights) ⌝ }
+    requires { ⌜ Summable (now weights) (now values) ⌝ }
     ensures { λ r. ⌜ Summed (now (weights .entry)) (now (values .entry)) r ⌝ }
 {
     let mut sum: i64 = 0;
@@ -21,7 +23,15 @@ fn weighted_sum(weights: &[i64], values: &[i32]) -> i64
     sum
 }
 
-// The sum over three, six and nine terms: a control triangle, an edge's two, a triangle's three.
+// The weighted sum over d, rounded once.
+fn weighted_mean(weights: &[i64], values: &[i32], d: u64) -> i64
+    requires { ⌜ Summable (now weights) (now values) × (0 < d) × (d ≤ 2 ^ 61) ⌝ }
+    ensures { λ r. ⌜ r ≡ rounded (weightedSum (now (weights .entry)) (now (values .entry))) d ⌝ }
+{
+    let sum = weighted_sum(weights, values);
+    round_quotient(sum, d)
+}
+
 pub fn weighted_sum3(weights: [i64; 3], values: [i32; 3]) -> i64
     requires { ⌜ Within (2 ^ 26) weights ⌝ }
     ensures { λ r. ⌜ Summed weights values r ⌝ }
@@ -41,4 +51,25 @@ pub fn weighted_sum9(weights: [i64; 9], values: [i32; 9]) -> i64
     ensures { λ r. ⌜ Summed weights values r ⌝ }
 {
     weighted_sum(&weights, &values)
+}
+
+pub fn weighted_mean3(weights: [i64; 3], values: [i32; 3], d: u64) -> i64
+    requires { ⌜ Within (2 ^ 26) weights × (0 < d) × (d ≤ 2 ^ 61) ⌝ }
+    ensures { λ r. ⌜ r ≡ rounded (weightedSum weights values) d ⌝ }
+{
+    weighted_mean(&weights, &values, d)
+}
+
+pub fn weighted_mean6(weights: [i64; 6], values: [i32; 6], d: u64) -> i64
+    requires { ⌜ Within (2 ^ 26) weights × (0 < d) × (d ≤ 2 ^ 61) ⌝ }
+    ensures { λ r. ⌜ r ≡ rounded (weightedSum weights values) d ⌝ }
+{
+    weighted_mean(&weights, &values, d)
+}
+
+pub fn weighted_mean9(weights: [i64; 9], values: [i32; 9], d: u64) -> i64
+    requires { ⌜ Within (2 ^ 26) weights × (0 < d) × (d ≤ 2 ^ 61) ⌝ }
+    ensures { λ r. ⌜ r ≡ rounded (weightedSum weights values) d ⌝ }
+{
+    weighted_mean(&weights, &values, d)
 }

@@ -17,11 +17,11 @@ use Rattle.exact.proofs.filling.copy_over.Statement.{statement}
 use Rattle.exact.proofs.filling.copy_over.Tie as tie
 
 -- the number at i, as a run
-abbrev one : List ℤ → ℕ → List ℤ
-one numbers i = getD numbers i (pos 0) ∷ []
+abbrev single : List ℤ → ℕ → List ℤ
+single numbers i = getD numbers i (pos 0) ∷ []
 
 abbrev Inv-loop : tie.InvT-loop
-Inv-loop numbers out₀ i₀ out i = (i ≤ length numbers) × (length out ≡ length out₀) × (out ≡ over (runs i (one numbers)) out₀)
+Inv-loop numbers out₀ i₀ out i = (i ≤ length numbers) × (length out ≡ length out₀) × (out ≡ over (runs i (single numbers)) out₀)
 
 abbrev μ-loop : tie.MeasureT-loop
 μ-loop numbers out₀ i₀ out i = length numbers - i
@@ -56,8 +56,8 @@ loop-again c =
       search needs,
       rw (toZ-ofZ {w = w32} (sfits-of (c .z .given)))
           (ap (λ (l : List ℤ). set l i (getD numbers i (pos 0))) (c .before .before .loop .inv .2)
-          ∙ ap (λ (at : ℕ). sets (over (runs i (one numbers)) old) at (one numbers i)) (sym (mul-one i))
-          ∙ over-more old i 1 (one numbers) (λ k h. refl) (omega arith)),
+          ∙ ap (λ (at : ℕ). sets (over (runs i (single numbers)) old) at (single numbers i)) (sym (mul-one i))
+          ∙ over-more old i 1 (single numbers) (λ k h. refl) (omega arith)),
     )
 
 same-length : tie.Need-same-length Inv-loop μ-loop
@@ -69,7 +69,7 @@ returns c =
     let old = c .before .before .args .out .now in
     let all : c .before .loop .i ≡ length numbers = omega arith in
     c .before .loop .inv .2
-    ∙ ap (λ (n : ℕ). over (runs n (one numbers)) old) all
+    ∙ ap (λ (n : ℕ). over (runs n (single numbers)) old) all
     ∙ ap (λ (l : List ℤ). over l old) (runs-of-list (pos 0) numbers (length numbers) (le-refl (length numbers)) ∙ take-length numbers)
 
 pub copy-over-spec : {M : Type 1} → statement M

@@ -2,8 +2,7 @@
 -- the definition.
 use mathlib.Core.Path.{sym, _∙_, ap, subst}
 use mathlib.Core.List.{List, [], _∷_}
-use Prim.Native.Nat.{_*_, _^_, _<_}
-use native.Mathlib.Nat.{le-of-lt}
+use Prim.Native.Nat.{_*_, _<_}
 use native.Mathlib.Omega.{arith}
 use lib.IntN.{ℤ, pos, natAbs, _+ℤ_, _*ℤ_}
 use lib.Signed.{_<ℤ_}
@@ -20,7 +19,7 @@ use Rattle.exact.proofs.rounding.round_quotient.Tie as tie
 
 -- n, and d cast to an i64
 abbrev leaves : tie.Start → List (Leaf w64)
-leaves c = of-number (c .args .n) (c .fits .n) (c .pre .1) ∷ of-unsigned {n = 2 ^ 32} (c .args .d) (le-of-lt (c .fits .d .fits)) tt ∷ []
+leaves c = of-number (c .args .n) (c .fits .n) (c .pre .2) ∷ of-unsigned (c .args .d) (c .pre .1) tt ∷ []
 
 abbrev numerator : Expr
 numerator = lit (pos 2) ⊗ var 0 ⊕ var 1

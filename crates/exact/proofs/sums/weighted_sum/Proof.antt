@@ -43,7 +43,7 @@ module _ (c : tie.After-v Inv-loop μ-loop) where
   value-fits = sfits-of (c .v .given)
 
   weight-size : natAbs (getD weights i (pos 0)) ≤ 2 ^ 26
-  weight-size = within-at (2 ^ 26) weights (c .before .before .before .before .pre .2) i
+  weight-size = within-at (2 ^ 26) weights (c .before .before .before .before .pre .small) i
 
   abbrev leaves : List (Leaf w64)
   leaves =
