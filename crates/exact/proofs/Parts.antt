@@ -8,7 +8,7 @@ use Prim.Native.Nat.{ℕ, zero, suc, _+_, _*_, _-_, max, _≤_, _<_}
 use native.Mathlib.Omega.{arith}
 use lib.Dec.{T, ltb, leb→le, le→leb, ltb→lt, lt→ltb, nltb→le}
 use lib.IntN.{ℤ, pos, negsuc, negℤ, natAbs, subℕ, _+ℤ_, _-ℤ_, _*ℤ_}
-use lib.Signed.{leZ, ltZ, _≤ℤ_, _<ℤ_}
+use lib.Signed.{mag, leZ, ltZ, _≤ℤ_, _<ℤ_}
 
 -- ---- the two parts
 
@@ -56,6 +56,11 @@ product-parts (negsuc a) (negsuc b) = omega arith
 pub size-parts : (a : ℤ) → (natAbs a ≡ posPart a + negPart a) × (natAbs a ≡ max (posPart a) (negPart a))
 size-parts (pos n) = omega arith
 size-parts (negsuc n) = omega arith
+
+-- `mag`, by which the kit bounds a signed width, is n both for n and for -(n + 1)
+pub mag-parts : (a : ℤ) → suc (mag a) ≡ max (suc (posPart a)) (negPart a)
+mag-parts (pos n) = omega arith
+mag-parts (negsuc n) = omega arith
 
 -- ---- order and equality, by the parts
 

@@ -3,16 +3,16 @@
 -- A size loses the least number of a width. Where the whole range counts, go by `fits-between`.
 use mathlib.Core.Path.{sym, subst}
 use mathlib.Core.List.{List, [], _∷_}
-use Prim.Native.Nat.{ℕ, zero, suc, _+_, _*_, _^_, _≤_, _<_}
-use native.Mathlib.Nat.{le-trans, le-refl, mul-le-mul, add-le-add, lt-of-le-of-lt}
+use Prim.Native.Nat.{ℕ, zero, suc, _+_, _*_, _^_, _≤_}
+use native.Mathlib.Nat.{le-trans, le-refl, mul-le-mul, add-le-add}
 use native.Mathlib.Omega.{arith}
 use lib.Dec.{T, ltb, ltb→lt}
 use lib.ListN.{getD}
-use lib.IntN.{ℤ, pos, negsuc, negℤ, natAbs}
-use lib.Signed.{mag, natAbs-le, _≤ℤ_, _<ℤ_}
+use lib.IntN.{ℤ, pos, negℤ, natAbs}
+use lib.Signed.{natAbs-le, _≤ℤ_, _<ℤ_}
 use mir.Syntax.{Width}
 use mir.Val.{SFits, hbits}
-use Rattle.exact.proofs.Parts.{integers, negation-parts}
+use Rattle.exact.proofs.Parts.{integers, mag-parts, size-parts, negation-parts}
 use Rattle.exact.proofs.Order.{size-sum, size-difference, size-product}
 use Rattle.exact.proofs.Expressions.{Op, plus, minus, times, Expr, var, lit, op, apply, value}
 
@@ -53,12 +53,9 @@ value-bound ρ ns (op o a b) s = reach-bound o (value ρ a) (value ρ b) (value-
 
 -- ---- from a size, or from a range, to a signed width, and back
 
-mag-size : (z : ℤ) → mag z ≤ natAbs z
-mag-size (pos n) = le-refl n
-mag-size (negsuc n) = omega arith
-
 pub fits-of-size : {w : Width} {z : ℤ} {n : ℕ} → natAbs z ≤ n → T (ltb n (2 ^ hbits w)) → SFits w z
-fits-of-size {w} {z} {n} h t = record { sfits = lt-of-le-of-lt (le-trans (mag-size z) h) (ltb→lt n (2 ^ hbits w) t) }
+fits-of-size {w} {z} {n} h t =
+    record { sfits = omega (arith, mag-parts z, size-parts z, ltb→lt n (2 ^ hbits w) t) }
 
 pub fits-by-size : (w : Width) (ρ : List ℤ) (ns : List ℕ) (a : Expr) → Sized ρ ns → T (ltb (bound ns a) (2 ^ hbits w)) → SFits w (value ρ a)
 fits-by-size w ρ ns a s t = fits-of-size (value-bound ρ ns a s) t
@@ -67,22 +64,10 @@ pub size-of-fits : {w : Width} {z : ℤ} → SFits w z → natAbs z ≤ 2 ^ hbit
 size-of-fits {w} {z} f = natAbs-le z (f .sfits)
 
 pub fits-between : {w : Width} {z : ℤ} → negℤ (pos (2 ^ hbits w)) ≤ℤ z → z <ℤ pos (2 ^ hbits w) → SFits w z
-fits-between {w} {z} l h = record { sfits = go z l h }
-  where
-    go : (z : ℤ) → negℤ (pos (2 ^ hbits w)) ≤ℤ z → z <ℤ pos (2 ^ hbits w) → mag z < 2 ^ hbits w
-    go (pos n) l h = omega (integers, negation-parts (pos (2 ^ hbits w)))
-    go (negsuc n) l h = omega (integers, negation-parts (pos (2 ^ hbits w)))
+fits-between {w} {z} l h = record { sfits = omega (integers, mag-parts z, size-parts z, negation-parts (pos (2 ^ hbits w))) }
 
 pub fits-low : {w : Width} {z : ℤ} → SFits w z → negℤ (pos (2 ^ hbits w)) ≤ℤ z
-fits-low {w} {z} f = go z (f .sfits)
-  where
-    go : (z : ℤ) → mag z < 2 ^ hbits w → negℤ (pos (2 ^ hbits w)) ≤ℤ z
-    go (pos n) h = omega (integers, negation-parts (pos (2 ^ hbits w)))
-    go (negsuc n) h = omega (integers, negation-parts (pos (2 ^ hbits w)))
+fits-low {w} {z} f = omega (integers, mag-parts z, negation-parts (pos (2 ^ hbits w)))
 
 pub fits-high : {w : Width} {z : ℤ} → SFits w z → z <ℤ pos (2 ^ hbits w)
-fits-high {w} {z} f = go z (f .sfits)
-  where
-    go : (z : ℤ) → mag z < 2 ^ hbits w → z <ℤ pos (2 ^ hbits w)
-    go (pos n) h = omega integers
-    go (negsuc n) h = omega integers
+fits-high {w} {z} f = omega (integers, mag-parts z)

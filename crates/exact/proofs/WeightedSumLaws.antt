@@ -9,9 +9,10 @@ use native.Mathlib.Numerals.{add-one}
 use native.Mathlib.Omega.{arith}
 use lib.ListN.{length, getD, drop, drop-of-length-le}
 use lib.Seq.{drop-cons}
-use lib.IntN.{ℤ, pos, negsuc, natAbs, _+ℤ_, _-ℤ_, _*ℤ_, +ℤ-assoc, zero-*ℤ, *ℤ-zero, *ℤ-comm}
+use lib.IntN.{ℤ, pos, natAbs, _+ℤ_, _-ℤ_, _*ℤ_, +ℤ-assoc, zero-*ℤ, *ℤ-zero, *ℤ-comm}
 use lib.Signed.{_≤ℤ_, ≤ℤ-refl}
 use Rattle.exact.specs.WeightedSum.{weightedSum, total, Within}
+use Rattle.exact.proofs.Parts.{integers, sum-parts, size-parts}
 use Rattle.exact.proofs.Integers.{*ℤ-+ℤ}
 use Rattle.exact.proofs.Order.{+ℤ-mono, *ℤ-mono, ≡-≤ℤ, size-sum, size-product}
 use Rattle.exact.proofs.Expressions.{Expr, var, _⊕_, _⊖_, _⊗_, identity}
@@ -114,12 +115,9 @@ total-not-negative (w ∷ ws) h = +ℤ-mono (h .0) (total-not-negative ws (h .1)
 
 -- the sizes of weights that are not negative add up
 total-size : (w : ℤ) (ws : List ℤ) → NotNegative (w ∷ ws) → natAbs (w +ℤ total ws) ≡ natAbs w + natAbs (total ws)
-total-size w ws h = sizes-add w (total ws) (h .0) (total-not-negative ws (h .1))
-  where
-    sizes-add : (a b : ℤ) → pos 0 ≤ℤ a → pos 0 ≤ℤ b → natAbs (a +ℤ b) ≡ natAbs a + natAbs b
-    sizes-add (pos a) (pos b) h k = refl
-    sizes-add (pos a) (negsuc b) h k = absurd (k .le)
-    sizes-add (negsuc a) b h k = absurd (h .le)
+total-size w ws h =
+    let rest : pos 0 ≤ℤ total ws = total-not-negative ws (h .1) in
+    omega (integers, size-parts w, size-parts (total ws), size-parts (w +ℤ total ws), sum-parts w (total ws))
 
 -- values that differ by at most e everywhere have sums that differ by at most e times the sum of the weights
 pub sum-distance : {e : ℕ} {vs us : List ℤ} (ws : List ℤ) → NotNegative ws → Forall₂ (Near e) vs us →
