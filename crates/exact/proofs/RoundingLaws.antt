@@ -1,4 +1,4 @@
--- The laws of `rounded`: nearest, range, whole quotient, scale, monotone. Nothing above this file unfolds `rounded`, and no other law is stated:
+-- The laws of `rounded`: nearest, range, whole quotient, scale, monotone. Proofs above cite these and do not unfold `rounded`. No other law is stated:
 -- these hold whichever way halves go. Range and whole quotient follow from nearest.
 use mathlib.Core.Path.{_≡_, refl, subst, subst₂}
 use mathlib.Core.List.{List, [], _∷_, Forall₂}
