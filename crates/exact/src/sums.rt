@@ -32,6 +32,7 @@ fn weighted_mean(weights: &[i64], values: &[i32], d: u64) -> i64
     round_quotient(sum, d)
 }
 
+// The sum of three, six and nine terms. Other crates call these; a bound on the weights is all that they ask.
 pub fn weighted_sum3(weights: [i64; 3], values: [i32; 3]) -> i64
     requires { ⌜ Within (2 ^ 26) weights ⌝ }
     ensures { λ r. ⌜ Summed weights values r ⌝ }
@@ -53,6 +54,7 @@ pub fn weighted_sum9(weights: [i64; 9], values: [i32; 9]) -> i64
     weighted_sum(&weights, &values)
 }
 
+// The mean of three, six and nine terms, with the weights' bound and a divisor from 1 to 2 to the power 61.
 pub fn weighted_mean3(weights: [i64; 3], values: [i32; 3], d: u64) -> i64
     requires { ⌜ Within (2 ^ 26) weights × (0 < d) × (d ≤ 2 ^ 61) ⌝ }
     ensures { λ r. ⌜ r ≡ rounded (weightedSum weights values) d ⌝ }
