@@ -17,7 +17,6 @@ use Rattle.exact.proofs.SignedCode.{Leaf, of-number, of-bits, of-narrow
 use Rattle.exact.proofs.WeightedSumLaws.{sum-turn, sum-end, within-at}
 use Rattle.exact.proofs.sums.weighted_sum.Statement.{statement}
 use Rattle.exact.proofs.sums.weighted_sum.Tie as tie
-use Rattle.exact.proofs.sums.weighted_sum.Reads as reads
 
 abbrev Inv-loop : tie.InvT-loop
 Inv-loop weights values sum₀ i₀ sum i =
@@ -48,7 +47,7 @@ module _ (c : tie.After-v Inv-loop μ-loop) where
   abbrev leaves : List (Leaf w64)
   leaves =
       of-bits {n = 9 * 2 ^ 57} (c .before .before .before .loop .sum) refl (omega arith)
-      ∷ of-number (getD weights i (pos 0)) (sfits-of (c .before .w .given)) (weight-size)
+      ∷ of-number (getD weights i (pos 0)) (sfits-of (c .before .w .given)) weight-size
       ∷ of-narrow (getD values i (pos 0)) value-fits tt (size-of-fits value-fits)
       ∷ []
 
