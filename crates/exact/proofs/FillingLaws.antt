@@ -8,7 +8,7 @@ use native.Mathlib.Nat.{add-zero, zero-add, add-suc, suc-add, suc-mul, zero-mul}
 use native.Mathlib.Numerals.{add-one}
 use native.Mathlib.Omega.{arith}
 use lib.ListN.{length, take, drop, getD, set, length-append, length-drop, List·getD-append}
-use lib.Seq.{take-suc, sets, sets-eq, take-at, drop-at, getD-append-add, drop-append-add, drop-drop}
+use lib.Seq.{take-suc, take-all, sets, sets-eq, take-at, drop-at, getD-append-add, drop-append-add, drop-drop}
 use lib.Arith.{digits-lt}
 use native.Mathlib.Decide.{decLt}
 use Rattle.exact.specs.Filling.{over, runs}
@@ -58,6 +58,10 @@ module _ {ℓ} {A : Type ℓ} where
   runs-of-list d l (suc n) h = ap (λ (x : List A). x ++ (getD l n d ∷ [])) (runs-of-list d l n (omega arith)) ∙ sym (take-suc l n d h)
 
   -- ---- storing one after the other
+
+  -- an array is its elements
+  pub array-elements : (d : A) (l : List A) (n : ℕ) → length l ≡ n → runs n (λ (i : ℕ). getD l i d ∷ []) ≡ l
+  array-elements d l n e = runs-of-list d l n (omega (arith, e)) ∙ take-all n l (omega (arith, e))
 
   -- stores that follow one another are one store
   pub sets-append : (xs : List A) (l : List A) (at : ℕ) (ys : List A) → sets (sets l at xs) (at + length xs) ys ≡ sets l at (xs ++ ys)

@@ -5,13 +5,13 @@ use mathlib.Core.List.{List, [], _∷_, Forall₂}
 use Prim.Native.Nat.{ℕ, suc, _*_, _/_, _<_, _≤_}
 use native.Mathlib.Nat.{mul-div-le, lt-mul-div-succ, mul-pos}
 use native.Mathlib.Omega.{arith}
-use lib.IntN.{ℤ, pos, negsuc, natAbs, _+ℤ_, _-ℤ_, _*ℤ_, *ℤ-comm}
+use lib.IntN.{ℤ, pos, negsuc, natAbs, negℤ, _+ℤ_, _-ℤ_, _*ℤ_, *ℤ-comm}
 use lib.Signed.{_≤ℤ_, _<ℤ_, leZ-yes, ≤ℤ-refl}
 use Rattle.exact.specs.Rounding.{floorQuotient, rounded}
 use Rattle.exact.specs.WeightedSum.{weightedSum, total}
 use Rattle.exact.proofs.Parts.{integers, sum-parts, difference-parts, negation-parts, size-parts, parts-le}
-use Rattle.exact.proofs.Integers.{*ℤ-assoc}
-use Rattle.exact.proofs.Order.{≤ℤ-trans, ≤ℤ-antisym, ≤ℤ-<ℤ-trans, +ℤ-mono, *ℤ-mono, *ℤ-mono-<, *ℤ-cancel-<}
+use Rattle.exact.proofs.Integers.{*ℤ-assoc, neg-times}
+use Rattle.exact.proofs.Order.{size-between, ≤ℤ-trans, ≤ℤ-antisym, ≤ℤ-<ℤ-trans, +ℤ-mono, *ℤ-mono, *ℤ-mono-<, *ℤ-cancel-<}
 use Rattle.exact.proofs.Expressions.{var, lit, _⊕_, _⊗_, identity}
 use Rattle.exact.proofs.Linear.{expression-parts}
 use Rattle.exact.proofs.WeightedSumLaws.{InRange, sum-range}
@@ -86,6 +86,14 @@ rounded-at-most {m} {n} d p h =
     let near = pos d *ℤ rounded n d in
     at-most d
     (omega (integers, *ℤ-comm m (pos d), nearest n d p, size-parts (near -ℤ n), difference-parts near n, sum-parts (pos d *ℤ m) (pos d)))
+
+-- and so a bound for its size
+pub rounded-size : (n : ℤ) (d m : ℕ) → 0 < d → natAbs n ≤ m * d → natAbs (rounded n d) ≤ m
+rounded-size n d m p h =
+    size-between
+    (rounded-at-least {m = negℤ (pos m)} {n = n} d p
+    (omega (integers, neg-times (pos m) (pos d), negation-parts (pos (m * d)), size-parts n, h)))
+    (rounded-at-most {m = pos m} {n = n} d p (omega (integers, size-parts n, h)))
 
 -- a whole quotient is itself
 pub rounded-whole : (m : ℤ) (d : ℕ) → 0 < d → rounded (m *ℤ pos d) d ≡ m

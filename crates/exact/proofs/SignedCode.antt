@@ -5,10 +5,10 @@
 use mathlib.Core.Path.{_≡_, sym, _∙_, ap, subst, subst₂}
 use mathlib.Core.List.{List, [], _∷_, map}
 use mathlib.Core.Bool.{Bool, true, false, not, _&&_}
-use Prim.Native.Nat.{ℕ, zero, suc, _^_, _≤_}
+use Prim.Native.Nat.{ℕ, zero, suc, _^_, _≤_, _<_}
 use native.Mathlib.Nat.{lt-of-le-of-lt, le-refl}
 use lib.Dec.{T, ltb, leb, ltb→lt, lt→ltb, nleb→lt}
-use lib.Signed.{ltZ, leZ, _≤ℤ_, _<ℤ_, ltZ-yes, ltZ-no, leZ-yes}
+use lib.Signed.{mag, ltZ, leZ, _≤ℤ_, _<ℤ_, ltZ-yes, ltZ-no, leZ-yes}
 use lib.ListN.{getD}
 use lib.Pow.{pow-pos}
 use lib.IntN.{ℤ, pos, negsuc, natAbs}
@@ -37,6 +37,11 @@ at-most-left a b e = record { lt = go a b (subst (λ (t : Bool). T (not t)) (sym
     go (pos a) (negsuc b) t = tt
     go (negsuc a) (pos b) t = absurd t
     go (negsuc a) (negsuc b) t = lt→ltb a b (nleb→lt b a t)
+
+-- ---- a number that was read from a slice or an array, out of the bits that hold it; what a read gives is the bound
+
+pub reads-back : (w : Width) (z : ℤ) → mag z < 2 ^ hbits w → toZ w (ofZ w z) ≡ z
+reads-back w z h = toZ-ofZ {w = w} {z = z} (record { sfits = h })
 
 -- ---- leaves: the bits held, what they stand for, and a bound for its size
 

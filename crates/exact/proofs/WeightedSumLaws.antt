@@ -4,7 +4,7 @@ use mathlib.Core.Path.{_≡_, refl, sym, _∙_, ap, subst}
 use mathlib.Core.Logic.{_⊎_, ⊎-elim}
 use mathlib.Core.List.{List, [], _∷_, map, zipWith, Forall₂, Forall₂·nil, Forall₂·cons}
 use Prim.Native.Nat.{ℕ, zero, suc, _+_, _*_, _≤_, _<_, zero-le}
-use native.Mathlib.Nat.{mul-le-mul, le-refl}
+use native.Mathlib.Nat.{mul-le-mul, le-refl, le-trans}
 use native.Mathlib.Numerals.{add-one}
 use native.Mathlib.Omega.{arith}
 use lib.ListN.{length, getD, drop, drop-of-length-le}
@@ -15,7 +15,7 @@ use Rattle.exact.specs.WeightedSum.{weightedSum, total, Within}
 use Rattle.exact.proofs.Parts.{integers, sum-parts, size-parts}
 use Rattle.exact.proofs.Integers.{*ℤ-+ℤ}
 use Rattle.exact.proofs.Order.{+ℤ-mono, *ℤ-mono, ≡-≤ℤ, size-sum, size-product}
-use Rattle.exact.proofs.Expressions.{Expr, var, _⊕_, _⊖_, _⊗_, identity}
+use Rattle.exact.proofs.Expressions.{Expr, var, lit, _⊕_, _⊖_, _⊗_, value, identity}
 
 -- ---- linear in the values
 
@@ -147,6 +147,42 @@ sum-size m n (w ∷ ws) [] h k = zero-le
 sum-size m n (w ∷ ws) (v ∷ vs) h k =
     omega (arith, size-sum (w *ℤ v) (weightedSum ws vs), size-product w v, mul-le-mul (h .0) (k .0), sum-size m n ws vs (h .1) (k .1))
 
+-- weights that are not negative: the sum of the weights times a bound for the values
+pub sum-within : (n : ℕ) (ws vs : List ℤ) → NotNegative ws → Within n vs → natAbs (weightedSum ws vs) ≤ n * natAbs (total ws)
+unfolding weightedSum total
+sum-within n [] vs h k = zero-le
+sum-within n (w ∷ ws) [] h k = zero-le
+sum-within n (w ∷ ws) (v ∷ vs) h k =
+    omega (
+      arith,
+      size-sum (w *ℤ v) (weightedSum ws vs),
+      size-product w v,
+      mul-le-mul (le-refl (natAbs w)) (k .0),
+      sum-within n ws vs (h .1) (k .1),
+      ap (λ (m : ℕ). n * m) (total-size w ws h),
+    )
+
+-- and no weight is larger than their sum
+pub weights-within : (n : ℕ) (ws : List ℤ) → NotNegative ws → natAbs (total ws) ≤ n → Within n ws
+unfolding total
+weights-within n [] h k = tt
+weights-within n (w ∷ ws) h k =
+    let all = total-size w ws h in
+    (omega (arith, all, k), weights-within n ws (h .1) (omega (arith, all, k)))
+
+-- ---- a weighted sum as an expression of its values, whose variable i is the value at i
+
+abbrev pub sumFrom : List ℤ → ℕ → Expr
+sumFrom [] i = lit (pos 0)
+sumFrom (w ∷ ws) i = lit w ⊗ var i ⊕ sumFrom ws (suc i)
+
+pub sum-expression : (ws vs : List ℤ) (i : ℕ) → i + length ws ≤ length vs → weightedSum ws (drop i vs) ≡ value vs (sumFrom ws i)
+unfolding weightedSum
+sum-expression [] vs i h = refl
+sum-expression (w ∷ ws) vs i h =
+    ap (weightedSum (w ∷ ws)) (drop-cons vs i (pos 0) (omega (arith, h)))
+    ∙ ap (λ (z : ℤ). w *ℤ getD vs i (pos 0) +ℤ z) (sum-expression ws vs (suc i) (omega (arith, h)))
+
 -- ---- a weight of 0 makes its value not matter
 
 -- the sums are equal where, at each index, the weight is 0 or the values are equal
@@ -184,3 +220,8 @@ pub within-at : (n : ℕ) (zs : List ℤ) → Within n zs → (i : ℕ) → natA
 within-at n [] h i = zero-le
 within-at n (z ∷ zs) h zero = h .0
 within-at n (z ∷ zs) h (suc i) = within-at n zs (h .1) i
+
+-- a larger bound
+pub within-more : (m n : ℕ) → m ≤ n → (zs : List ℤ) → Within m zs → Within n zs
+within-more m n k [] h = tt
+within-more m n k (z ∷ zs) h = (le-trans (h .0) k, within-more m n k zs (h .1))

@@ -1,0 +1,4 @@
+-- The laws of nets: faults and their order, ranges, sizes and places in storage.
+pub mod Faults
+pub mod Ranges
+pub mod Places

@@ -1,0 +1,33 @@
+-- The net range: the code's two comparisons are the definition's one of the size, and what a list in range gives.
+use mathlib.Core.Path.{_≡_, refl, sym, ap, _∙_}
+use mathlib.Core.Bool.{true, false, _||_}
+use mathlib.Core.List.{List, [], _∷_}
+use Prim.Native.Nat.{ℕ, zero, suc, _+_, _≤_, _<_, suc-le-suc}
+use native.Mathlib.Nat.{le-of-suc-le-suc, not-suc-le-zero}
+use native.Mathlib.Numerals.{unary-clauses}
+use lib.Dec.{ltb→lt, leb→le}
+use lib.IntN.{ℤ, pos, negsuc, natAbs}
+use lib.ListN.{length, getD, drop}
+use lib.Seq.{drop-cons}
+use lib.Signed.{_≤ℤ_, _<ℤ_, ltZ}
+use borrow.Author.Tests.{lt-ltb, le-ltb, ltb-false}
+use Rattle.net.specs.TurnedAway.{beyond, anyBeyond}
+use Rattle.net.proofs.Faults.{or-none}
+
+pub beyond-below : (z : ℤ) → z <ℤ negsuc 16777215 → true ≡ beyond z
+beyond-below (pos n) h = absurd (h .lt)
+beyond-below (negsuc n) h = sym (lt-ltb _ _ (suc-le-suc (ltb→lt 16777215 n (h .lt))))
+
+pub beyond-above : (z : ℤ) → negsuc 16777215 ≤ℤ z → ltZ (pos 16777216) z ≡ beyond z
+beyond-above (pos n) h = refl
+beyond-above (negsuc n) h = sym (le-ltb _ _ (suc-le-suc (leb→le n 16777215 (h .le))))
+
+-- the numbers from place i on: the one at i, and those after it
+pub any-from : (l : List ℤ) (i : ℕ) → i < length l → anyBeyond (drop i l) ≡ (beyond (getD l i (pos 0)) || anyBeyond (drop (i + 1) l))
+any-from l i h = simp unary-clauses (ap anyBeyond (drop-cons l i (pos 0) h))
+
+-- in a list in range, each number is
+pub in-range : (l : List ℤ) → anyBeyond l ≡ false → (i : ℕ) → i < length l → natAbs (getD l i (pos 0)) ≤ 16777216
+in-range [] e i h = absurd (not-suc-le-zero h)
+in-range (z ∷ zs) e zero h = ltb-false _ _ (or-none (beyond z) (anyBeyond zs) e .0)
+in-range (z ∷ zs) e (suc i) h = in-range zs (or-none (beyond z) (anyBeyond zs) e .1) i (le-of-suc-le-suc h)

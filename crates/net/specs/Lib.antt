@@ -1,0 +1,3 @@
+-- The definitions that contracts cite: the net and its storage, and what is turned away.
+pub mod Net
+pub mod TurnedAway

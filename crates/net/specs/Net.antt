@@ -1,0 +1,115 @@
+-- Document 01, "The net": indices, steps, triangles, and how a lent net stores the control triangles of its vertices.
+use mathlib.Core.Path.{_≡_, refl}
+use mathlib.Core.Bool.{Bool, true, false}
+use mathlib.Core.List.{List, [], _∷_}
+use Prim.Native.Nat.{ℕ, _+_, _*_}
+use lib.ListN.{getD, take, drop}
+use lib.IntN.{ℤ, pos, negsuc}
+
+-- 'Indices 1, 2, 3 run in a circle': of the steps, of the controls of a vertex, and of the corners of a triangle
+pub data Index : Type 0 where
+  one two three : Index
+
+-- the index after k in the circle, and the one before it
+abbrev pub next : Index → Index
+next one = two
+next two = three
+next three = one
+
+abbrev pub previous : Index → Index
+previous one = three
+previous two = one
+previous three = two
+
+-- how many indices stand before k in the order 1, 2, 3
+abbrev pub rank : Index → ℕ
+rank one = 0
+rank two = 1
+rank three = 2
+
+-- vertex (i, j) has column i and row j
+pub record Vertex : Type 0 where
+  pub column : ℕ
+  pub row : ℕ
+
+abbrev pub vertexAt : ℕ → ℕ → Vertex
+vertexAt i j = record { column = i; row = j }
+
+-- the steps e1 = (1, 0), e2 = (-1, 1), e3 = (0, -1), by column and by row
+abbrev pub stepColumn : Index → ℤ
+stepColumn one = pos 1
+stepColumn two = negsuc 0
+stepColumn three = pos 0
+
+abbrev pub stepRow : Index → ℤ
+stepRow one = pos 0
+stepRow two = pos 1
+stepRow three = negsuc 0
+
+-- one of the two triangles of cell (i, j): the down triangle, or else the up triangle
+pub record Triangle : Type 0 where
+  pub down : Bool
+  pub column : ℕ
+  pub row : ℕ
+
+abbrev pub triangleAt : ℕ → ℕ → Bool → Triangle
+triangleAt i j down = record { down = down; column = i; row = j }
+
+-- the corners of the up triangle of cell (i, j), in document 01's order, and of the down triangle
+abbrev pub upCorner : ℕ → ℕ → Index → Vertex
+upCorner i j one = vertexAt i j
+upCorner i j two = vertexAt (i + 1) j
+upCorner i j three = vertexAt i (j + 1)
+
+abbrev pub downCorner : ℕ → ℕ → Index → Vertex
+downCorner i j one = vertexAt (i + 1) j
+downCorner i j two = vertexAt i (j + 1)
+downCorner i j three = vertexAt (i + 1) (j + 1)
+
+abbrev pub cornerOf : Bool → ℕ → ℕ → Index → Vertex
+cornerOf false = upCorner
+cornerOf true = downCorner
+
+abbrev pub corner : Triangle → Index → Vertex
+corner t = cornerOf (t .down) (t .column) (t .row)
+
+-- one coordinate of the controls of all vertices, however they are stored: the number of control k of vertex V
+abbrev pub Field : Type 0
+Field = Vertex → Index → ℤ
+
+-- 'per vertex c1, c2, c3, each x, y, z': so many numbers a vertex has
+abbrev pub stride : ℕ
+stride = 9
+
+-- so many numbers a net of width w and height h has, document 01's 9wh
+abbrev pub numbers : ℕ → ℕ → ℕ
+numbers w h = stride * (w * h)
+
+-- where the numbers of a vertex begin: vertices are stored row by row
+abbrev pub start : ℕ → Vertex → ℕ
+start w v = stride * (v .row * w + v .column)
+
+-- the nine numbers of a vertex, that part of the slice
+abbrev pub vertexNumbers : List ℤ → ℕ → Vertex → List ℤ
+vertexNumbers net w v = take stride (drop (start w v) net)
+
+-- the number of a lent slice at a place
+abbrev pub number : List ℤ → ℕ → ℤ
+number net at = getD net at (pos 0)
+
+-- a control point, x, y, z, that begins at a place of the slice
+unfoldable pub controlPoint : List ℤ → ℕ → List ℤ
+controlPoint net at = number net at ∷ number net (at + 1) ∷ number net (at + 2) ∷ []
+
+-- the control triangle of a vertex, an array of three arrays of three numbers
+unfoldable pub controlTriangle : List ℤ → ℕ → Vertex → List (List ℤ)
+controlTriangle net w v =
+    controlPoint net (start w v) ∷ controlPoint net (start w v + 3) ∷ controlPoint net (start w v + 6) ∷ []
+
+-- number x (0, 1, 2 for x, y, z) of control k of a control triangle
+abbrev pub entry : List (List ℤ) → Index → ℕ → ℤ
+entry c k x = getD (getD c (rank k) []) x (pos 0)
+
+-- the field of coordinate x that a stored net of width w holds
+abbrev pub field : List ℤ → ℕ → ℕ → Field
+field net w x v k = entry (controlTriangle net w v) k x

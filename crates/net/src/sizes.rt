@@ -1,0 +1,26 @@
+// The sizes that a net may have, and the numbers that it then needs.
+ghost use mathlib.Core.Path.{_≡_};
+ghost use mathlib.Core.Bool.{false};
+ghost use Rattle.net.specs.TurnedAway.{badSide, badSize, shortNet};
+
+// Whether the count of vertices of one side is outside 2 to 1,025.
+fn bad_side(n: usize) -> bool
+    ensures { λ r. ⌜ r ≡ badSide n ⌝ }
+{
+    if n < 2 { true } else { 1025 < n }
+}
+
+// Whether one of the two sides is.
+pub fn bad_size(w: usize, h: usize) -> bool
+    ensures { λ r. ⌜ r ≡ badSize w h ⌝ }
+{
+    if bad_side(w) { true } else { bad_side(h) }
+}
+
+// Whether a net of an accepted size is shorter than nine times its vertices.
+pub fn short_net(net: &[i32], w: usize, h: usize) -> bool
+    requires { ⌜ badSize w h ≡ false ⌝ }
+    ensures { λ r. ⌜ r ≡ shortNet (now (net .entry)) w h ⌝ }
+{
+    net.len() < 9 * (w * h)
+}

@@ -1,0 +1,74 @@
+// Control points and control triangles in lent memory: loading and storing them by value, and the test of their range.
+ghost use mathlib.Core.Path.{_≡_};
+ghost use Prim.Native.Nat.{_+_, _≤_, _<_, _*_};
+ghost use lib.ListN.{length};
+ghost use lib.Seq.{sets};
+ghost use Rattle.net.specs.Net.{controlPoint, controlTriangle, vertexAt, start, vertexNumbers};
+ghost use Rattle.net.specs.TurnedAway.{beyond, anyBeyond};
+
+// The control point that begins at a place of the net.
+fn load_point(net: &[i32], at: usize) -> [i32; 3]
+    requires { ⌜ at + 3 ≤ length (now net) ⌝ }
+    ensures { λ r. ⌜ r ≡ controlPoint (now (net .entry)) at ⌝ }
+{
+    let x = net[at];
+    let y = net[at + 1];
+    let z = net[at + 2];
+    [x, y, z]
+}
+
+// The control triangle of vertex (i, j).
+pub fn load(net: &[i32], w: usize, i: usize, j: usize) -> [[i32; 3]; 3]
+    requires { ⌜ start w (vertexAt i j) + 9 ≤ length (now net) ⌝ }
+    ensures { λ r. ⌜ r ≡ controlTriangle (now (net .entry)) w (vertexAt i j) ⌝ }
+{
+    let at = 9 * (j * w + i);
+    let c1 = load_point(net, at);
+    let c2 = load_point(net, at + 3);
+    let c3 = load_point(net, at + 6);
+    [c1, c2, c3]
+}
+
+// A control point stored from a place on.
+pub fn store_point(point: [i32; 3], at: usize, out: &mut [i32])
+    requires { ⌜ at + 3 ≤ length (now out) ⌝ }
+    ensures { λ r. ⌜ now (out .exit) ≡ sets (now (out .entry)) at point ⌝ }
+{
+    let x = point[0];
+    let y = point[1];
+    let z = point[2];
+    out[at] = x;
+    out[at + 1] = y;
+    out[at + 2] = z;
+}
+
+// Whether a number is outside the net range. Both limits are compared with: the least i32 has no size that fits.
+fn number_beyond(z: i32) -> bool
+    ensures { λ r. ⌜ r ≡ beyond z ⌝ }
+{
+    if z < -16777216 { true } else { 16777216 < z }
+}
+
+// Whether one of the numbers is.
+pub fn any_beyond(numbers: &[i32]) -> bool
+    ensures { λ r. ⌜ r ≡ anyBeyond (now (numbers .entry)) ⌝ }
+{
+    let mut i = 0;
+    while i < numbers.len() {
+        let z = numbers[i];
+        if number_beyond(z) {
+            return true;
+        }
+        i += 1;
+    }
+    false
+}
+
+// Whether one of the nine numbers of vertex (i, j) is.
+pub fn vertex_beyond(net: &[i32], w: usize, i: usize, j: usize) -> bool
+    requires { ⌜ start w (vertexAt i j) + 9 ≤ length (now net) ⌝ }
+    ensures { λ r. ⌜ r ≡ anyBeyond (vertexNumbers (now (net .entry)) w (vertexAt i j)) ⌝ }
+{
+    let at = 9 * (j * w + i);
+    any_beyond(&net[at..at + 9])
+}

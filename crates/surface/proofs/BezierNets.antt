@@ -1,0 +1,61 @@
+-- What an accepted Bézier net is known by, and what a call leaves in its output.
+use mathlib.Core.Path.{_≡_, sym, ap, _∙_}
+use mathlib.Core.Bool.{Bool, false, cond}
+use mathlib.Core.List.{List, [], _∷_}
+use Prim.Native.Nat.{ℕ, _≤_}
+use lib.Dec.{ltb, lit<}
+use lib.IntN.{ℤ, pos}
+use lib.ListN.{length, getD}
+use borrow.Author.Tests.{ltb-false, ne-eqb}
+use Rattle.exact.specs.Filling.{over, runs}
+use Rattle.net.specs.Net.{Triangle, triangleAt, field}
+use Rattle.net.specs.TurnedAway.{Fault, badSize, shortNet, accepted}
+use Rattle.net.proofs.Faults.{fault-none}
+use Rattle.surface.specs.BezierNet.{controlsOf, controlList, bezierPoints, bezierNumbers}
+use Rattle.surface.specs.TurnedAway.{noTriangle, triangleBeyond, bezierRefusal}
+use Rattle.surface.specs.Answers.{bezierOutput}
+use Rattle.surface.specs.Evaluation.{InNet, pointsFrom}
+use Rattle.surface.proofs.Corners.{in-net-triangle, same-points}
+
+pub record GoodTriangle (net : List ℤ) (w i j : ℕ) (down : Bool) (room : ℕ) : Type 0 where
+  pub lies : InNet net w i j
+  pub room-enough : 57 ≤ room
+  pub range : triangleBeyond net w (triangleAt i j down) ≡ false
+
+pub good-triangle : (net : List ℤ) (w h i j : ℕ) (down : Bool) (room : ℕ) →
+    bezierRefusal net w h i j down room ≡ 0 → GoodTriangle net w i j down room
+good-triangle net w h i j down room e =
+    let f₃ : List Fault = (triangleBeyond net w (triangleAt i j down), 3) ∷ [] in
+    let f₅ : List Fault = (ltb room 57, 5) ∷ f₃ in
+    let f₂ : List Fault = (shortNet net w h, 2) ∷ f₅ in
+    let e₁ = fault-none (badSize w h) 1 ((noTriangle w h i j, 6) ∷ f₂) (lit< tt) e in
+    let e₆ = fault-none (noTriangle w h i j) 6 f₂ (lit< tt) (e₁ .1) in
+    let e₂ = fault-none (shortNet net w h) 2 f₅ (lit< tt) (e₆ .1) in
+    let e₅ = fault-none (ltb room 57) 5 f₃ (lit< tt) (e₂ .1) in
+    let e₃ = fault-none (triangleBeyond net w (triangleAt i j down)) 3 [] (lit< tt) (e₅ .1) in
+    record {
+      lies = in-net-triangle net w h i j (e₁ .0) (e₆ .0) (e₂ .0);
+      room-enough = ltb-false room 57 (e₅ .0);
+      range = e₃ .0;
+    }
+
+-- the points of the control values are the points of the net
+pub points-of-net : (net : List ℤ) (w : ℕ) (t : Triangle) →
+    runs 19 (pointsFrom (t .down) (controlList (controlsOf (field net w 0) t)) (controlList (controlsOf (field net w 1) t)) (controlList (controlsOf (field net w 2) t)))
+    ≡ bezierNumbers net w t
+points-of-net net w t =
+    let same : (x : ℕ) → _ = λ x. same-points (t .down) (controlsOf (field net w x) t) in
+    λ i. runs 19 (λ (n : ℕ). getD (same 0 i) n (pos 0) ∷ getD (same 1 i) n (pos 0) ∷ getD (same 2 i) n (pos 0) ∷ [])
+
+-- the output where the call is accepted, and where it is refused
+pub accepted-output : (net : List ℤ) (w h i j : ℕ) (down : Bool) (out : List ℤ) → bezierRefusal net w h i j down (length out) ≡ 0 →
+    over (bezierNumbers net w (triangleAt i j down)) out ≡ bezierOutput net w h i j down out
+unfolding bezierOutput
+accepted-output net w h i j down out e =
+    ap (λ (n : ℕ). cond (accepted n) (over (bezierNumbers net w (triangleAt i j down)) out) out) (sym e)
+
+pub refused-output : (net : List ℤ) (w h i j : ℕ) (down : Bool) (out : List ℤ) →
+    (bezierRefusal net w h i j down (length out) ≡ 0 → ⊥) → out ≡ bezierOutput net w h i j down out
+unfolding bezierOutput
+refused-output net w h i j down out e =
+    ap (λ (b : Bool). cond b (over (bezierNumbers net w (triangleAt i j down)) out) out) (sym (ne-eqb _ 0 e))

@@ -1,0 +1,97 @@
+-- Corners of triangles: their neighbours by steps, and their places in storage.
+use mathlib.Core.Path.{_≡_, refl, ap, _∙_}
+use mathlib.Core.Bool.{Bool, true, false}
+use mathlib.Core.List.{List, [], _∷_}
+use Prim.Native.Nat.{ℕ, _+_, _-_, _≤_, _<_}
+use native.Mathlib.Omega.{arith}
+use lib.Dec.{leb}
+use lib.IntN.{ℤ, pos, negsuc, natAbs, _+ℤ_, _-ℤ_}
+use Rattle.exact.specs.WeightedSum.{Within}
+use lib.ListN.{length}
+use borrow.Author.Tests.{leb-false, ltb-false}
+use Rattle.exact.proofs.Expressions.{var, lit, _⊕_, identity}
+use Rattle.net.specs.Net.{Index, one, two, three, rank, next, previous, Triangle, triangleAt, corner, stepColumn, stepRow, numbers, start, vertexNumbers, field}
+use Rattle.net.specs.TurnedAway.{badSize, shortNet, anyBeyond}
+use Rattle.net.proofs.Faults.{or-none}
+use Rattle.net.proofs.Places.{GoodSize, good-size, vertex-ends, field-size}
+use Rattle.surface.specs.BezierNet.{Controls, controlsOf, controlList, controlsIn, indexK, indexM, indexN, bezierPoints}
+use Rattle.surface.specs.TurnedAway.{noTriangle, triangleBeyond}
+use Rattle.surface.specs.Evaluation.{InNet, cornerControls, valuesIn}
+
+-- both triangles of a cell of the grid lie in the net
+pub in-net : (net : List ℤ) {w h i j : ℕ} → GoodSize w h → i + 1 < w → j + 1 < h → numbers w h ≤ length net → InNet net w i j
+in-net net {w} {h} {i} {j} s a b l =
+    let ends = vertex-ends {w = w} {h = h} {i = i + 1} {j = j + 1} a b in
+    record { width = s .narrow; column = a; row = omega (arith, b, s .low); ends = omega (arith, ends, l) }
+
+pub in-net-triangle : (net : List ℤ) (w h i j : ℕ) →
+    badSize w h ≡ false → noTriangle w h i j ≡ false → shortNet net w h ≡ false → InNet net w i j
+in-net-triangle net w h i j e₁ e₆ e₂ =
+    let s = good-size w h e₁ in
+    let t = or-none (leb (w - 1) i) (leb (h - 1) j) e₆ in
+    let a = leb-false (w - 1) i (t .0) in
+    let b = leb-false (h - 1) j (t .1) in
+    in-net net s (omega (arith, a, s .wide)) (omega (arith, b, s .high)) (ltb-false (length net) (numbers w h) e₂)
+
+-- each corner of a triangle of a cell in the net ends within it
+pub corner-ends : (net : List ℤ) (w i j : ℕ) → InNet net w i j → (down : Bool) (P : Index) →
+    start w (corner (triangleAt i j down) P) + 9 ≤ length net
+corner-ends net w i j l false one = omega (arith, l .ends)
+corner-ends net w i j l false two = omega (arith, l .ends)
+corner-ends net w i j l false three = omega (arith, l .ends, l .column)
+corner-ends net w i j l true one = omega (arith, l .ends)
+corner-ends net w i j l true two = omega (arith, l .ends)
+corner-ends net w i j l true three = l .ends
+
+-- a triangle in range has its nine control values in range
+pub values-within : (net : List ℤ) (w i j : ℕ) (down : Bool) → InNet net w i j → triangleBeyond net w (triangleAt i j down) ≡ false →
+    (x : ℕ) → x < 3 → Within 16777216 (controlList (controlsOf (field net w x) (triangleAt i j down)))
+values-within net w i j down l e x h =
+    let t = triangleAt i j down in
+    let e₁ = or-none _ _ e in
+    let e₂ = or-none _ _ (e₁ .1) in
+    let size : (P : Index) → anyBeyond (vertexNumbers net w (corner t P)) ≡ false → (k : Index) → natAbs (controlsOf (field net w x) t P k) ≤ 16777216 =
+    λ P b k. field-size net w (corner t P) b (corner-ends net w i j l down P) k x h in
+    let a = size one (e₁ .0) in
+    let b = size two (e₂ .0) in
+    let c = size three (e₂ .1) in
+    (a one, (a two, (a three, (b one, (b two, (b three, (c one, (c two, (c three, tt)))))))))
+
+-- the nine values in a coordinate, from the loaded control triangles
+pub loaded-values : (net : List ℤ) (w : ℕ) (t : Triangle) {c : List (List (List ℤ))} → c ≡ cornerControls net w t →
+    (x : ℕ) {values : List ℤ} → values ≡ valuesIn c x → values ≡ controlList (controlsOf (field net w x) t)
+loaded-values net w t e x q = q ∙ ap (λ (c : List (List (List ℤ))). valuesIn c x) e
+
+-- the control values as a list and back
+pub same-points : (down : Bool) (c : Controls) → bezierPoints down (controlsIn (controlList c)) ≡ bezierPoints down c
+unfolding bezierPoints
+same-points false c = refl
+same-points true c = refl
+
+-- 'one neighbour is P + ek, the other P - em; n is the third index': the next corner is P + ek and the previous one P - em, in both triangles
+back : (n : ℕ) → pos n ≡ pos (n + 1) +ℤ negsuc 0
+back n = identity (var 0) (var 0 ⊕ lit (pos 1) ⊕ lit (negsuc 0)) (pos n ∷ []) refl
+
+stays : (n : ℕ) → pos n ≡ pos n +ℤ pos 0
+stays n = identity (var 0) (var 0 ⊕ lit (pos 0)) (pos n ∷ []) refl
+
+pub steps-agree : (i j : ℕ) (down : Bool) (P : Index) →
+    (pos (corner (triangleAt i j down) (next P) .column) ≡ pos (corner (triangleAt i j down) P .column) +ℤ stepColumn (indexK down P))
+    × (pos (corner (triangleAt i j down) (next P) .row) ≡ pos (corner (triangleAt i j down) P .row) +ℤ stepRow (indexK down P))
+    × (pos (corner (triangleAt i j down) (previous P) .column) ≡ pos (corner (triangleAt i j down) P .column) -ℤ stepColumn (indexM down P))
+    × (pos (corner (triangleAt i j down) (previous P) .row) ≡ pos (corner (triangleAt i j down) P .row) -ℤ stepRow (indexM down P))
+steps-agree i j false one = (refl, stays j, stays i, refl)
+steps-agree i j false two = (back i, refl, back i, stays j)
+steps-agree i j false three = (stays i, back j, refl, back j)
+steps-agree i j true one = (back i, refl, stays (i + 1), refl)
+steps-agree i j true two = (refl, stays (j + 1), refl, back j)
+steps-agree i j true three = (stays (i + 1), back j, back i, stays (j + 1))
+
+-- k, m and n are the three indices
+pub indices-differ : (down : Bool) (P : Index) → rank (indexK down P) + rank (indexM down P) + rank (indexN down P) ≡ 3
+indices-differ false one = refl
+indices-differ false two = refl
+indices-differ false three = refl
+indices-differ true one = refl
+indices-differ true two = refl
+indices-differ true three = refl

@@ -1,0 +1,148 @@
+-- `surface::points::surface_point` meets its contract.
+use Rattle.surface.proofs.SurfacePoints.{GoodPlace, good-place, refused-place, range-refusal, refused-point, accepted-point, share-small, in-order-of, evaluable, evaluated-coordinate}
+use Rattle.surface.proofs.Cells.{in-net-place}
+use Rattle.surface.specs.Evaluation.{InNet, InOrder, cornerControls}
+use Rattle.surface.specs.TurnedAway.{triangleBeyond}
+use Rattle.surface.specs.SurfacePoint.{chosen, share, orderOf}
+use Rattle.net.proofs.Faults.{cond-true, cond-false}
+use Rattle.net.specs.Net.{one, two, three, triangleAt, Index, Triangle}
+use lib.IntN.{ℤ}
+use native.Mathlib.Omega.{arith}
+use Prim.Native.Nat.{ℕ, _≤_}
+use mathlib.Core.List.{List}
+use mathlib.Core.Bool.{Bool, false}
+use mathlib.Core.Path.{_≡_, refl, sym, subst, _∙_, subst₂, ap}
+use borrow.Author.Needs.{needs}
+use Rattle.surface.proofs.points.surface_point.Statement.{statement}
+use Rattle.surface.proofs.points.surface_point.Tie as tie
+
+-- where 1, 6 and 2 do not refuse
+module _ (c : tie.Else1) where
+  abbrev net : List ℤ
+  net = c .before .before .args .net .now
+
+  abbrev w : ℕ
+  w = c .before .before .args .w
+
+  abbrev h : ℕ
+  h = c .before .before .args .h
+
+  abbrev p : ℕ
+  p = c .before .before .args .p
+
+  abbrev q : ℕ
+  q = c .before .before .args .q
+
+  good : GoodPlace net w h p q
+  good = good-place net w h p q (sym (c .before .place-refusal .ensures) ∙ c .if1 .left)
+
+-- the cell, the kind and the shares that were found are those of the place
+module _ (c : tie.After-locate) where
+  abbrev at : tie.Else1
+  at = c .before
+
+  abbrev found : Triangle
+  found = triangleAt (c .locate .result .i) (c .locate .result .j) (c .locate .result .down)
+
+  abbrev place : Triangle
+  place = chosen 1024 (w at) (h at) (p at) (q at)
+
+  found-place : found ≡ place
+  found-place = λ t. triangleAt (c .locate .ensures .column t) (c .locate .ensures .row t) (c .locate .ensures .kind t)
+
+  lies : InNet (net at) (w at) (c .locate .result .i) (c .locate .result .j)
+  lies =
+      subst₂ (InNet (net at) (w at)) (sym (c .locate .ensures .column)) (sym (c .locate .ensures .row))
+      (in-net-place (net at) (w at) (h at) (p at) (q at) (good at .size) (good at .place) (good at .long))
+
+-- what each later call gave, said of the place
+beyond : (c : tie.After-triangle-beyond) → c .triangle-beyond .result ≡ triangleBeyond (net (at (c .before))) (w (at (c .before))) (place (c .before))
+beyond c = c .triangle-beyond .ensures ∙ ap (triangleBeyond (net (at (c .before))) (w (at (c .before)))) (found-place (c .before))
+
+loaded : (c : tie.After-load-triangle) →
+    c .load-triangle .result ≡ cornerControls (net (at (c .before .before .before))) (w (at (c .before .before .before))) (place (c .before .before .before))
+loaded c =
+    let l = c .before .before .before in
+    c .load-triangle .ensures ∙ ap (cornerControls (net (at l)) (w (at l))) (found-place l)
+
+abbrev shares-of : tie.Else1 → Index → ℕ
+shares-of e = share 1024 (w e) (h e) (p e) (q e)
+
+in-order : (c : tie.After-put-in-order) →
+    (let o = c .put-in-order .result in
+    let s = shares-of (at (c .before .before .before .before)) in
+    InOrder (orderOf s) s (o .rows) (o .a) (o .b) (o .g))
+in-order c =
+    let l = c .before .before .before .before in
+    let found = l .locate .ensures in
+    in-order-of (shares-of (at l)) (found .share-1) (found .share-2) (found .share-3) (c .put-in-order .ensures)
+
+place-refusal-requires : tie.Need-place-refusal-requires
+place-refusal-requires c κs = search needs
+
+returns : tie.Need-returns
+returns c =
+    let a = c .before .before .args in
+    let told = c .before .place-refusal .ensures in
+    refused-point (a .net .now) (a .w) (a .h) (a .p) (a .q)
+    (told ∙ refused-place (a .net .now) (a .w) (a .h) (a .p) (a .q) (λ e. c .if1 .taken (told ∙ e))) (c .if1 .taken)
+
+locate-requires : tie.Need-locate-requires
+locate-requires c κs = (good c .size, good c .place)
+
+triangle-beyond-requires : tie.Need-triangle-beyond-requires
+triangle-beyond-requires c κs = lies c
+
+returns-2 : tie.Need-returns-2
+returns-2 c =
+    let l = c .before .before in
+    let e = l .before in
+    refused-point (net e) (w e) (h e) (p e) (q e)
+    (range-refusal (net e) (w e) (h e) (p e) (q e) (good e) (cond-true _ 3 0 (sym (beyond (c .before)) ∙ c .if2 .taken))) (λ z. absurd (omega (arith, z)))
+
+load-triangle-requires : tie.Need-load-triangle-requires
+load-triangle-requires c κs = lies (c .before .before)
+
+put-in-order-requires : tie.Need-put-in-order-requires
+put-in-order-requires c κs =
+    let l = c .before .before .before in
+    let e = l .before in
+    let small = share-small (w e) (h e) (p e) (q e) (good e .size) (good e .place) in (
+      subst (λ (n : ℕ). n ≤ 1024) (sym (l .locate .ensures .share-1)) (small one),
+      subst (λ (n : ℕ). n ≤ 1024) (sym (l .locate .ensures .share-2)) (small two),
+      subst (λ (n : ℕ). n ≤ 1024) (sym (l .locate .ensures .share-3)) (small three),
+    )
+
+evaluate-requires : tie.Need-evaluate-requires
+evaluate-requires c κs =
+    let f = c .before .before .before in
+    let l = f .before .before in
+    let e = at l in
+    evaluable (net e) (w e) (h e) (p e) (q e) (good e) (sym (beyond (f .before)) ∙ f .if2 .left) (loaded (c .before .before)) (in-order (c .before))
+
+returns-3 : tie.Need-returns-3
+returns-3 c =
+    let o = c .before .before in
+    let v = o .before in
+    let f = v .before in
+    let l = f .before .before in
+    let e = at l in
+    accepted-point (net e) (w e) (h e) (p e) (q e)
+    (range-refusal (net e) (w e) (h e) (p e) (q e) (good e) (cond-false _ 3 0 (sym (beyond (f .before)) ∙ f .if2 .left) refl))
+    (c .evaluate .ensures .0 ∙ evaluated-coordinate (net e) (w e) (h e) (p e) (q e) 0 (l .locate .ensures .kind) (loaded v) (in-order o))
+    (c .evaluate .ensures .1 .0 ∙ evaluated-coordinate (net e) (w e) (h e) (p e) (q e) 1 (l .locate .ensures .kind) (loaded v) (in-order o))
+    (c .evaluate .ensures .1 .1 ∙ evaluated-coordinate (net e) (w e) (h e) (p e) (q e) 2 (l .locate .ensures .kind) (loaded v) (in-order o))
+
+pub surface-point-spec : {M : Type 1} → statement M
+surface-point-spec =
+    tie.close
+    (tie.spec
+    place-refusal-requires
+    returns
+    locate-requires
+    triangle-beyond-requires
+    returns-2
+    load-triangle-requires
+    put-in-order-requires
+    evaluate-requires
+    returns-3)

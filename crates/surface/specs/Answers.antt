@@ -1,0 +1,52 @@
+-- Document 01's number and values for each case of each answer, and what the calls answer and leave in lent memory.
+use mathlib.Core.Bool.{Bool, cond}
+use mathlib.Core.List.{List, [], _∷_, map}
+use Prim.Native.Nat.{ℕ}
+use lib.IntN.{ℤ, pos}
+use lib.ListN.{length}
+use lib.Ieee.{Float, binary64, ofBits, ofInt, div}
+use Rattle.exact.specs.Filling.{over}
+use Rattle.net.specs.Net.{triangleAt}
+use Rattle.net.specs.TurnedAway.{accepted}
+use Rattle.surface.specs.BezierNet.{bezierNumbers}
+use Rattle.surface.specs.SurfacePoint.{surfacePoint}
+use Rattle.surface.specs.TurnedAway.{bezierRefusal, pointRefusal}
+use Rattle.surface.specs.declared.answers.Answer.{Answer}
+use Rattle.surface.specs.declared.answers.Answer.the-variants as answer
+use Rattle.surface.specs.declared.answers.PointAnswer.{PointAnswer}
+use Rattle.surface.specs.declared.answers.PointAnswer.the-variants as point
+use Rattle.surface.specs.declared.answers.ViewAnswer.{ViewAnswer}
+use Rattle.surface.specs.declared.answers.ViewAnswer.the-variants as view
+
+-- document 01's number of an answer, 0 where nothing is refused
+abbrev pub answerNumber : Answer → ℕ
+answerNumber answer.Done = 0
+answerNumber (answer.Refused n) = n
+
+-- the number and the values: x, y, z of a point, and none where it is refused
+abbrev pub pointTold : PointAnswer → ℕ × List ℤ
+pointTold (point.At p) = (0, p .x ∷ p .y ∷ p .z ∷ [])
+pointTold (point.Refused n) = (n, [])
+
+abbrev pub viewTold : ViewAnswer → ℕ × List Float
+viewTold (view.At p) = (0, p .x ∷ p .y ∷ p .z ∷ [])
+viewTold (view.Refused n) = (n, [])
+
+-- the Bézier net laid over the front of the lent output, which a refusal leaves as it was
+unfoldable pub bezierOutput : List ℤ → ℕ → ℕ → ℕ → ℕ → Bool → List ℤ → List ℤ
+bezierOutput net w h i j down out =
+    cond (accepted (bezierRefusal net w h i j down (length out))) (over (bezierNumbers net w (triangleAt i j down)) out) out
+
+-- what a surface point answers
+unfoldable pub pointAnswer : List ℤ → ℕ → ℕ → ℕ → ℕ → ℕ × List ℤ
+pointAnswer net w h p q =
+    (pointRefusal net w h p q, cond (accepted (pointRefusal net w h p q)) (surfacePoint net w h p q) [])
+
+-- 'each coordinate is converted and divided by 1024, one operation each': to the double of the whole number, over the double 1024
+abbrev pub millimetres : ℤ → Float
+millimetres z = div binary64 (ofInt binary64 z) (ofInt binary64 (pos 1024))
+
+-- what a viewer's point answers
+unfoldable pub viewAnswer : List ℤ → ℕ → ℕ → ℕ → ℕ → ℕ × List Float
+unfolding pointAnswer
+viewAnswer net w h p q = (pointAnswer net w h p q .0, map millimetres (pointAnswer net w h p q .1))

@@ -1,0 +1,133 @@
+-- Document 01, "Surface point": the exact spline at any edge count D, and the surface point at edge count 1,024.
+use mathlib.Core.Path.{_≡_, refl}
+use mathlib.Core.Bool.{Bool, true, false, not, cond}
+use mathlib.Core.List.{List, [], _∷_}
+use Prim.Native.Nat.{ℕ, _+_, _-_, _*_, _/_, _≤_, min}
+use lib.Dec.{leb, ltb}
+use lib.IntN.{ℤ, pos, _+ℤ_, _*ℤ_}
+use Rattle.exact.specs.Rounding.{rounded}
+use Rattle.net.specs.Net.{Index, one, two, three, Triangle, triangleAt, Field, field}
+use Rattle.surface.specs.BezierNet.{Controls, controlsOf, pointS, pointU, pointV, pointR, pointM, pointZ}
+
+-- 'Cell: i the smaller of p/1024 rounded down and w-2': of a side of n vertices, at edge count D
+abbrev pub cell : ℕ → ℕ → ℕ → ℕ
+cell D n p = min (p / D) (n - 2)
+
+-- what is left of p in its cell, document 01's f and g: 'p - 1024i'
+abbrev pub rest : ℕ → ℕ → ℕ → ℕ
+rest D n p = p - D * cell D n p
+
+-- the shares (document 01's term: barycentric coordinates times D) of the corners of an up triangle and of a down triangle
+abbrev pub upShare : ℕ → ℕ → ℕ → Index → ℕ
+upShare D f g one = D - f - g
+upShare D f g two = f
+upShare D f g three = g
+
+abbrev pub downShare : ℕ → ℕ → ℕ → Index → ℕ
+downShare D f g one = D - g
+downShare D f g two = D - f
+downShare D f g three = f + g - D
+
+-- the down triangle is chosen where f + g is above D
+abbrev pub isDown : ℕ → ℕ → ℕ → Bool
+isDown D f g = ltb D (f + g)
+
+abbrev pub shareIn : ℕ → ℕ → ℕ → Index → ℕ
+shareIn D f g = cond (isDown D f g) (downShare D f g) (upShare D f g)
+
+-- the triangle chosen for place (p, q) of a net of width w and height h, and the shares of its corners
+abbrev pub chosen : ℕ → ℕ → ℕ → ℕ → ℕ → Triangle
+chosen D w h p q = triangleAt (cell D w p) (cell D h q) (isDown D (rest D w p) (rest D h q))
+
+abbrev pub share : ℕ → ℕ → ℕ → ℕ → ℕ → Index → ℕ
+share D w h p q = shareIn D (rest D w p) (rest D h q)
+
+-- corners P, Q, T in the order of their shares: o231 has P = 2, Q = 3, T = 1
+pub data Order : Type 0 where
+  o123 o132 o213 o231 o312 o321 : Order
+
+abbrev pub cornerP : Order → Index
+cornerP o123 = one
+cornerP o132 = one
+cornerP o213 = two
+cornerP o231 = two
+cornerP o312 = three
+cornerP o321 = three
+
+abbrev pub cornerQ : Order → Index
+cornerQ o123 = two
+cornerQ o132 = three
+cornerQ o213 = one
+cornerQ o231 = three
+cornerQ o312 = one
+cornerQ o321 = two
+
+abbrev pub cornerT : Order → Index
+cornerT o123 = three
+cornerT o132 = two
+cornerT o213 = three
+cornerT o231 = one
+cornerT o312 = two
+cornerT o321 = one
+
+-- 'Order the shares a ≥ b ≥ d, equals in corner order' (`in-order` in proofs/Orders.antt)
+abbrev pub orderOf : (Index → ℕ) → Order
+orderOf a =
+    cond (leb (a two) (a one))
+    (cond (leb (a three) (a two)) o123 (cond (leb (a three) (a one)) o132 o312))
+    (cond (leb (a three) (a one)) o213 (cond (leb (a three) (a two)) o231 o321))
+
+-- A = a - b, B = 2(b - d), G = 3d
+abbrev pub gapA : Order → (Index → ℕ) → ℕ
+gapA o a = a (cornerP o) - a (cornerQ o)
+
+abbrev pub gapB : Order → (Index → ℕ) → ℕ
+gapB o a = 2 * (a (cornerQ o) - a (cornerT o))
+
+abbrev pub gapG : Order → (Index → ℕ) → ℕ
+gapG o a = 3 * a (cornerT o)
+
+-- A²sP + 2AB·u + 2AG·vP + B²r + 2BG·m + G²z, each point times 36
+abbrev pub quadratic : Bool → Controls → Index → Index → ℕ → ℕ → ℕ → ℤ
+quadratic down c P Q A B G =
+    pos (A * A) *ℤ pointS c P
+    +ℤ pos (2 * (A * B)) *ℤ pointU down c P Q
+    +ℤ pos (2 * (A * G)) *ℤ pointV down c P
+    +ℤ pos (B * B) *ℤ pointR down c P Q
+    +ℤ pos (2 * (B * G)) *ℤ pointM down c P Q
+    +ℤ pos (G * G) *ℤ pointZ down c
+
+-- the exact value in a triangle, times 36·D², from the control values and the shares of its corners in a given order
+abbrev pub valueIn : Bool → Controls → Order → (Index → ℕ) → ℤ
+valueIn down c o a = quadratic down c (cornerP o) (cornerQ o) (gapA o a) (gapB o a) (gapG o a)
+
+-- the exact spline of a field at place (p, q) of edge count D, times 36·D²
+unfoldable pub spline : Field → ℕ → ℕ → ℕ → ℕ → ℕ → ℤ
+spline F w h D p q =
+    valueIn (chosen D w h p q .down) (controlsOf F (chosen D w h p q)) (orderOf (share D w h p q)) (share D w h p q)
+
+-- the surface point in coordinate x: the exact value at edge count 1,024, rounded once
+unfoldable pub coordinate : List ℤ → ℕ → ℕ → ℕ → ℕ → ℕ → ℤ
+coordinate net w h p q x = rounded (spline (field net w x) w h 1024 p q) 37748736
+
+-- 36·1024²
+the-factor : 36 * (1024 * 1024) ≡ 37748736
+the-factor = refl
+
+abbrev pub surfacePoint : List ℤ → ℕ → ℕ → ℕ → ℕ → List ℤ
+surfacePoint net w h p q = coordinate net w h p q 0 ∷ coordinate net w h p q 1 ∷ coordinate net w h p q 2 ∷ []
+
+-- 'At edge count D a place lies in the up triangle of cell (i, j) exactly when p - Di and q - Dj are both at least 0 and their sum is at
+-- most D; in the down triangle exactly when both are at most D and their sum is at least D.' Said without a difference.
+abbrev pub LiesUp : ℕ → ℕ → ℕ → ℕ → ℕ → Type 0
+LiesUp D p q i j = (D * i ≤ p) × (D * j ≤ q) × (p + q ≤ D * i + D * j + D)
+
+abbrev pub LiesDown : ℕ → ℕ → ℕ → ℕ → ℕ → Type 0
+LiesDown D p q i j = (p ≤ D * i + D) × (q ≤ D * j + D) × (D * i + D * j + D ≤ p + q)
+
+abbrev pub LiesBy : Bool → ℕ → ℕ → ℕ → ℕ → ℕ → Type 0
+LiesBy false = LiesUp
+LiesBy true = LiesDown
+
+abbrev pub LiesIn : ℕ → ℕ → ℕ → Triangle → Type 0
+LiesIn D p q t = LiesBy (t .down) D p q (t .column) (t .row)

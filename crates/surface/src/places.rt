@@ -1,0 +1,147 @@
+// Places in 1,024ths of an edge: the chosen triangle, the shares of its corners, and their order.
+use net::bad_size;
+use net::short_net;
+ghost use mathlib.Core.Path.{_≡_};
+ghost use mathlib.Core.Bool.{false};
+ghost use Prim.Native.Nat.{_≤_};
+ghost use Rattle.net.specs.TurnedAway.{badSize};
+ghost use Rattle.surface.specs.SurfacePoint.{cell, orderOf};
+ghost use Rattle.surface.specs.TurnedAway.{noPlace};
+ghost use Rattle.surface.specs.Evaluation.{shares, Placed, InOrder, placeRefusal};
+
+// A place's cell, the kind of its triangle, and the shares of corners 1, 2, 3.
+pub struct Located {
+    pub i: usize,
+    pub j: usize,
+    pub down: bool,
+    pub a: usize,
+    pub b: usize,
+    pub d: usize,
+}
+
+// Where the evaluation finds sP, u, vP, r, m, z among the 19 points, and document 01's A, B and G.
+pub struct Ordered {
+    pub rows: [usize; 6],
+    pub a: usize,
+    pub b: usize,
+    pub g: usize,
+}
+
+// The cell of a place along a side of n vertices.
+fn cell_of(n: usize, p: usize) -> usize
+    requires { ⌜ 2 ≤ n ⌝ }
+    ensures { λ r. ⌜ r ≡ cell 1024 n p ⌝ }
+{
+    if p / 1024 < n - 2 { p / 1024 } else { n - 2 }
+}
+
+// The triangle of a place and the shares of its corners.
+pub fn locate(w: usize, h: usize, p: usize, q: usize) -> Located
+    requires { ⌜ (badSize w h ≡ false) × (noPlace w h p q ≡ false) ⌝ }
+    ensures { λ r. ⌜ Placed w h p q (r .i) (r .j) (r .down) (r .a) (r .b) (r .d) ⌝ }
+{
+    let i = cell_of(w, p);
+    let j = cell_of(h, q);
+    let f = p - 1024 * i;
+    let g = q - 1024 * j;
+    if 1024 < f + g {
+        Located {
+            i,
+            j,
+            down: true,
+            a: 1024 - g,
+            b: 1024 - f,
+            d: f + g - 1024,
+        }
+    } else {
+        Located {
+            i,
+            j,
+            down: false,
+            a: 1024 - f - g,
+            b: f,
+            d: g,
+        }
+    }
+}
+
+// Whether place (p, q) is not in the grid.
+fn no_place(w: usize, h: usize, p: usize, q: usize) -> bool
+    requires { ⌜ badSize w h ≡ false ⌝ }
+    ensures { λ r. ⌜ r ≡ noPlace w h p q ⌝ }
+{
+    if 1024 * (w - 1) < p {
+        true
+    } else {
+        1024 * (h - 1) < q
+    }
+}
+
+// The number of the first fault, 1, 6 or 2, or 0.
+pub fn place_refusal(net: &[i32], w: usize, h: usize, p: usize, q: usize) -> u32
+    ensures { λ r. ⌜ r ≡ placeRefusal (now (net .entry)) w h p q ⌝ }
+{
+    if bad_size(w, h) {
+        return 1;
+    }
+    if no_place(w, h, p, q) {
+        return 6;
+    }
+    if short_net(net, w, h) {
+        return 2;
+    }
+    0
+}
+
+// The shares of corners 1, 2, 3, put in order.
+pub fn put_in_order(a: usize, b: usize, d: usize) -> Ordered
+    requires { ⌜ (a ≤ 1024) × (b ≤ 1024) × (d ≤ 1024) ⌝ }
+    ensures { λ r. ⌜ InOrder (orderOf (shares a b d)) (shares a b d) (r .rows) (r .a) (r .b) (r .g) ⌝ }
+{
+    if b <= a {
+        if d <= b {
+            return Ordered {
+                rows: [0, 3, 9, 12, 15, 18],
+                a: a - b,
+                b: 2 * (b - d),
+                g: 3 * d,
+            };
+        }
+        if d <= a {
+            return Ordered {
+                rows: [0, 4, 9, 13, 16, 18],
+                a: a - d,
+                b: 2 * (d - b),
+                g: 3 * b,
+            };
+        }
+        return Ordered {
+            rows: [2, 7, 11, 13, 16, 18],
+            a: d - a,
+            b: 2 * (a - b),
+            g: 3 * b,
+        };
+    }
+    if d <= a {
+        return Ordered {
+            rows: [1, 5, 10, 12, 15, 18],
+            a: b - a,
+            b: 2 * (a - d),
+            g: 3 * d,
+        };
+    }
+    if d <= b {
+        return Ordered {
+            rows: [1, 6, 10, 14, 17, 18],
+            a: b - d,
+            b: 2 * (d - a),
+            g: 3 * a,
+        };
+    }
+    Ordered {
+        rows: [2, 8, 11, 14, 17, 18],
+        a: d - b,
+        b: 2 * (b - a),
+        g: 3 * a,
+    }
+}
