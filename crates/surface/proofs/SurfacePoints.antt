@@ -18,10 +18,10 @@ use Rattle.exact.proofs.RoundingLaws.{rounded-size}
 use Rattle.net.specs.Net.{Index, one, two, three, Triangle, field}
 use Rattle.surface.specs.BezierNet.{Controls, controlsOf, controlList, controlsIn, sixU, threeV, bezierPoints, pointS, pointU, pointV, pointR, pointM, pointZ}
 use Rattle.surface.specs.SurfacePoint.{Order, o123, o132, o213, o231, o312, o321, cornerP, cornerQ, cornerT, orderOf, chosen, share, gapA, gapB, gapG, quadratic, valueIn, spline, coordinate, surfacePoint, isDown, rest, upShare, downShare}
-use Rattle.net.specs.TurnedAway.{Fault, badSize, shortNet}
+use Rattle.net.specs.TurnedAway.{Fault, badSize, shortNet, accepted}
 use Rattle.net.proofs.Faults.{cond-first, cond-false, fault-none, fault-before}
 use Rattle.surface.specs.TurnedAway.{noPlace, triangleBeyond, pointRefusal}
-use Rattle.surface.specs.Answers.{pointAnswer}
+use Rattle.surface.specs.Answers.{pointAnswer, viewAnswer, viewPoint, millimetres}
 use Rattle.surface.specs.Evaluation.{placeRefusal, AllRows, pointFrom, rowsOf, coefficients, evaluated, cornerControls, valuesIn, shares, InOrder, Evaluable}
 use Rattle.surface.proofs.Weights.{point-sum, point-size}
 use Rattle.surface.proofs.Corners.{same-points, values-within}
@@ -139,6 +139,16 @@ pub accepted-point : (net : List ℤ) (w h p q : ℕ) → 0 ≡ pointRefusal net
 unfolding pointAnswer
 accepted-point net w h p q e ex ey ez =
     λ t. (e t, cond-first _ (surfacePoint net w h p q) [] (eq-eqb _ 0 (sym e)) (λ k. ex k ∷ ey k ∷ ez k ∷ []) t)
+
+-- the viewer's answer is the surface point's, coordinate by coordinate
+pub viewed : (net : List ℤ) (w h p q : ℕ) {told : ℕ × List ℤ} → told ≡ pointAnswer net w h p q →
+    (told .0, map millimetres (told .1)) ≡ viewAnswer net w h p q
+unfolding pointAnswer viewAnswer
+viewed net w h p q e = (λ t. (e t .0, map millimetres (e t .1))) ∙ (λ t. (pointRefusal net w h p q, at (accepted (pointRefusal net w h p q)) t))
+  where
+    at : (b : Bool) → map millimetres (cond b (surfacePoint net w h p q) []) ≡ cond b (viewPoint net w h p q) []
+    at true = refl
+    at false = refl
 
 -- what is known where 1, 6 and 2 do not refuse
 pub record GoodPlace (net : List ℤ) (w h p q : ℕ) : Type 0 where

@@ -4,7 +4,7 @@ use mathlib.Core.List.{List, [], _∷_, map}
 use Prim.Native.Nat.{ℕ}
 use lib.IntN.{ℤ, pos}
 use lib.ListN.{length}
-use lib.Ieee.{Float, binary64, ofBits, ofInt, div}
+use lib.Ieee.{Float, binary64, ofInt, div}
 use Rattle.exact.specs.Filling.{over}
 use Rattle.net.specs.Net.{triangleAt}
 use Rattle.net.specs.TurnedAway.{accepted}
@@ -46,7 +46,10 @@ pointAnswer net w h p q =
 abbrev pub millimetres : ℤ → Float
 millimetres z = div binary64 (ofInt binary64 z) (ofInt binary64 (pos 1024))
 
+abbrev pub viewPoint : List ℤ → ℕ → ℕ → ℕ → ℕ → List Float
+viewPoint net w h p q = map millimetres (surfacePoint net w h p q)
+
 -- what a viewer's point answers
 unfoldable pub viewAnswer : List ℤ → ℕ → ℕ → ℕ → ℕ → ℕ × List Float
-unfolding pointAnswer
-viewAnswer net w h p q = (pointAnswer net w h p q .0, map millimetres (pointAnswer net w h p q .1))
+viewAnswer net w h p q =
+    (pointRefusal net w h p q, cond (accepted (pointRefusal net w h p q)) (viewPoint net w h p q) [])

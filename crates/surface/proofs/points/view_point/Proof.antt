@@ -1,4 +1,5 @@
 -- `surface::points::view_point` meets its contract.
+use Rattle.surface.proofs.SurfacePoints.{viewed}
 use Rattle.exact.proofs.SignedCode.{reads-back}
 use mir.Val.{toZ, ofZ}
 use mir.Syntax.{w32}
@@ -36,7 +37,6 @@ enum-known-answer-2 : tie.Need-enum-known-answer-2
 enum-known-answer-2 c = search needs
 
 returns : tie.Need-returns
-unfolding viewAnswer
 returns c =
     let matched = c .before .before .before .before .before .before .before .answer .given in
     let fits = c .before .struct-told3 .given in
@@ -44,13 +44,12 @@ returns c =
     let x : c .before .before .before .before .millimetres-of .result ≡ millimetres (matched .0 .0 .x) = coordinate _ (fits .0 .1) (c .before .before .before .before .millimetres-of .ensures) in
     let y : c .before .before .millimetres-of2 .result ≡ millimetres (matched .0 .0 .y) = coordinate _ (fits .1 .0 .1) (c .before .before .millimetres-of2 .ensures) in
     let z : c .millimetres-of3 .result ≡ millimetres (matched .0 .0 .z) = coordinate _ (fits .1 .1 .0 .1) (c .millimetres-of3 .ensures) in
-    (λ t. (0, x t ∷ y t ∷ z t ∷ [])) ∙ (λ t. (told t .0, map millimetres (told t .1)))
+    (λ t. (0, x t ∷ y t ∷ z t ∷ [])) ∙ viewed _ _ _ _ _ told
 
 returns-2 : tie.Need-returns-2
-unfolding viewAnswer
 returns-2 c =
     let told = sym (ap pointTold (c .before .answer2 .given .1)) ∙ c .before .before .before .surface-point .ensures in
-    λ t. (told t .0, map millimetres (told t .1))
+    viewed _ _ _ _ _ told
 
 pub view-point-spec : {M : Type 1} → statement M
 view-point-spec =

@@ -1,0 +1,1 @@
+-- The theorem stands beside its list, in specs/.

@@ -1,0 +1,65 @@
+-- Document 01, "Door corner": the cases marked *, as a list of what the definitions give and what document 01 says, and one theorem for all.
+-- A case is one line of the list.
+use mathlib.Core.Path.{_≡_, refl}
+use mathlib.Core.Bool.{false}
+use mathlib.Core.List.{List, [], _∷_, _++_, map}
+use Prim.Native.Nat.{ℕ}
+use lib.IntN.{ℤ, pos, negsuc, _+ℤ_, _-ℤ_, _*ℤ_}
+use Rattle.exact.specs.Rounding.{rounded, floorQuotient}
+use Rattle.net.specs.Net.{triangleAt, controlPoint, controlTriangle, field}
+use Rattle.surface.specs.BezierNet.{controlsOf, bezierPoints}
+use Rattle.surface.specs.SurfacePoint.{spline, coordinate}
+
+-- the nine numbers of vertex (i, j), where a = 1200i, b = 1200j and c1 has height z: 'x of c1, c2, c3 is 1200i + 600, 1200i - 600, 1200i;
+-- y is 1200j, 1200j + 600, 1200j - 600; z is 0 but for c1 of (0, 0)'
+abbrev vertexNumbers : ℤ → ℤ → ℤ → List ℤ
+vertexNumbers a b z =
+    (a +ℤ pos 600) ∷ b ∷ z
+    ∷ (a -ℤ pos 600) ∷ (b +ℤ pos 600) ∷ pos 0
+    ∷ a ∷ (b -ℤ pos 600) ∷ pos 0 ∷ []
+
+-- the net, 2 by 2, with height z at c1 of (0, 0)
+abbrev pub doorCorner : ℤ → List ℤ
+doorCorner z =
+    vertexNumbers (pos 0) (pos 0) z ++ vertexNumbers (pos 1200) (pos 0) (pos 0)
+    ++ vertexNumbers (pos 0) (pos 1200) (pos 0) ++ vertexNumbers (pos 1200) (pos 1200) (pos 0)
+
+-- heights of the net: -120 is `negsuc 119`
+abbrev low : ℤ
+low = negsuc 119
+
+-- z of the surface point at (p, q)
+abbrev zAt : ℤ → ℕ → ℕ → ℤ
+zAt z p q = coordinate (doorCorner z) 2 2 p q 2
+
+-- z of the exact spline at (p, q), times 36·1024²
+abbrev exactAt : ℤ → ℕ → ℕ → ℤ
+exactAt z p q = spline (field (doorCorner z) 2 2) 2 2 1024 p q
+
+-- the z numbers of the Bézier net of the up triangle
+abbrev bezierZ : ℤ → List ℤ
+bezierZ z = bezierPoints false (controlsOf (field (doorCorner z) 2 2) (triangleAt 0 0 false))
+
+-- whole numbers of document 01's list
+abbrev told : List ℕ → List ℤ
+told ns = map pos ns
+
+-- what the definitions give, and what document 01 says
+abbrev pub Case : Type 0
+Case = List ℤ × List ℤ
+
+unfoldable pub cases : List Case
+cases =
+    (zAt (pos 120) 0 0 ∷ [], pos 40 ∷ [])
+    ∷ (zAt (pos 120) 512 0 ∷ [], pos 40 ∷ [])
+    ∷ (zAt (pos 120) 0 512 ∷ [], pos 30 ∷ [])
+    ∷ ((pos 2 *ℤ exactAt (pos 120) 256 256) ∷ [], (pos 95 *ℤ pos 37748736) ∷ [])
+    ∷ (zAt (pos 120) 256 256 ∷ [], pos 48 ∷ [])
+    ∷ (zAt low 256 256 ∷ [], negsuc 46 ∷ [])
+    ∷ (bezierZ (pos 120), told (1440 ∷ 0 ∷ 0 ∷ 2880 ∷ 2160 ∷ 0 ∷ 0 ∷ 0 ∷ 0 ∷ 2880 ∷ 0 ∷ 0 ∷ 1440 ∷ 1080 ∷ 0 ∷ 1440 ∷ 1440 ∷ 0 ∷ 960 ∷ []))
+    ∷ []
+
+-- every case holds
+pub marked-cases : map (λ (c : Case). c .0) cases ≡ map (λ (c : Case). c .1) cases
+unfolding cases coordinate spline rounded floorQuotient bezierPoints controlTriangle controlPoint
+marked-cases = refl

@@ -1,0 +1,102 @@
+-- From the calls' answers to the exported numbers and outputs.
+use mathlib.Core.Path.{_≡_, refl, sym, ap, _∙_}
+use mathlib.Core.Bool.{Bool, true, false, cond, _||_}
+use mathlib.Core.List.{List, [], _∷_}
+use Prim.Native.Nat.{ℕ}
+use native.Mathlib.Omega.{arith}
+use lib.Dec.{ltb, eqb}
+use lib.IntN.{ℤ}
+use lib.ListN.{length}
+use borrow.Author.Tests.{ne-eqb}
+use Rattle.net.proofs.Faults.{cond-true, cond-false}
+use Rattle.net.specs.Net.{triangleAt}
+use Rattle.net.specs.TurnedAway.{badSize, shortNet, accepted}
+use Rattle.surface.specs.BezierNet.{bezierNumbers}
+use Rattle.surface.specs.SurfacePoint.{chosen}
+use Rattle.surface.specs.Answers.{bezierOutput}
+use Rattle.surface.specs.TurnedAway.{noTriangle, noPlace, triangleBeyond, bezierRefusal, pointRefusal}
+use Rattle.ups.specs.Exports.{outputAfter, bezierExport, pointExport, withRoom}
+
+-- a test that is joined by one that fails, and by one that holds
+or-false : (a : Bool) {b : Bool} → b ≡ false → a ≡ (a || b)
+or-false true e = refl
+or-false false e = sym e
+
+pub or-true : (a : Bool) {b : Bool} → b ≡ true → (a || b) ≡ true
+or-true true e = refl
+or-true false e = e
+
+-- `down` is 0 or 1: the Bézier net's own refusals
+pub bezier-export : (net : List ℤ) (w h i j down room : ℕ) → ltb 1 down ≡ false →
+    bezierRefusal net w h i j (eqb down 1) room ≡ bezierExport net w h i j down room
+bezier-export net w h i j down room e =
+    ap
+    (λ (t : Bool). cond (badSize w h) 1
+    (cond t 6 (cond (shortNet net w h) 2 (cond (ltb room 57) 5 (cond (triangleBeyond net w (triangleAt i j (eqb down 1))) 3 0)))))
+    (or-false (noTriangle w h i j) e)
+
+-- another number is no triangle
+pub no-kind : (net : List ℤ) (w h i j down room : ℕ) → badSize w h ≡ false → ltb 1 down ≡ true → 6 ≡ bezierExport net w h i j down room
+no-kind net w h i j down room e₁ e₆ = cond-false (badSize w h) _ _ e₁ (cond-true _ 6 _ (or-true (noTriangle w h i j) e₆))
+
+-- what the Bézier net's answer and output are to the export
+pub bezier-outcome : (net : List ℤ) (w h i j down : ℕ) (out : List ℤ) {n : ℕ} {l : List ℤ} → ltb 1 down ≡ false →
+    n ≡ bezierRefusal net w h i j (eqb down 1) (length out) → l ≡ bezierOutput net w h i j (eqb down 1) out →
+    (n ≡ bezierExport net w h i j down (length out)) × (l ≡ outputAfter n (bezierNumbers net w (triangleAt i j (eqb down 1))) out)
+unfolding bezierOutput
+bezier-outcome net w h i j down out e k q = (
+  k ∙ bezier-export net w h i j down (length out) e,
+  q ∙ ap (λ (m : ℕ). outputAfter m (bezierNumbers net w (triangleAt i j (eqb down 1))) out) (sym k),
+)
+
+-- 5 put into its place among a point's refusals
+in-place : (t₁ t₆ t₂ t₅ t₃ : Bool) →
+    withRoom t₅ (cond t₁ 1 (cond t₆ 6 (cond t₂ 2 (cond t₃ 3 0)))) ≡ cond t₁ 1 (cond t₆ 6 (cond t₂ 2 (cond t₅ 5 (cond t₃ 3 0))))
+in-place true t₆ t₂ true t₃ = refl
+in-place true t₆ t₂ false t₃ = refl
+in-place false true t₂ true t₃ = refl
+in-place false true t₂ false t₃ = refl
+in-place false false true true t₃ = refl
+in-place false false true false t₃ = refl
+in-place false false false true true = refl
+in-place false false false true false = refl
+in-place false false false false t₃ = refl
+
+pub point-export : (net : List ℤ) (w h p q room : ℕ) → withRoom (ltb room 3) (pointRefusal net w h p q) ≡ pointExport net w h p q room
+point-export net w h p q room =
+    in-place (badSize w h) (noPlace w h p q) (shortNet net w h) (ltb room 3) (triangleBeyond net w (chosen 1024 w h p q))
+
+-- an answer is a refusal's number and its values, which are none where it is refused: what an accepted answer tells, and a refused one
+module _ {A : Type 0} (r : ℕ) (values : List A) where
+  pub answered : {l : List A} → _≡_ {A = ℕ × List A} (0, l) (r, cond (accepted r) values []) → (r ≡ 0) × (l ≡ values)
+  answered {l} e =
+      let z : r ≡ 0 = λ t. sym e t .0 in
+      (z, (λ t. e t .1) ∙ ap (λ (n : ℕ). cond (accepted n) values []) z)
+
+  pub not-accepted : {n : ℕ} → length values ≡ 3 → _≡_ {A = ℕ × List A} (n, []) (r, cond (accepted r) values []) → r ≡ 0 → ⊥
+  not-accepted k e z =
+      let none : [] ≡ values = (λ t. e t .1) ∙ ap (λ (n : ℕ). cond (accepted n) values []) z in
+      omega (arith, ap length none, k)
+
+-- a refusal stays one, whatever the room
+still-refused : (short : Bool) (n : ℕ) → (n ≡ 0 → ⊥) → withRoom short n ≡ 0 → ⊥
+still-refused false n k e = k e
+still-refused true n k e = at (eqb n 0 || eqb n 3) e
+  where
+    at : (b : Bool) → cond b 5 n ≡ 0 → ⊥
+    at true q = omega (arith, q)
+    at false q = k q
+
+-- an accepted point: what the export answers with and without room
+pub point-accepted : (net : List ℤ) (w h p q room : ℕ) (short : Bool) → ltb room 3 ≡ short → pointRefusal net w h p q ≡ 0 →
+    withRoom short 0 ≡ pointExport net w h p q room
+point-accepted net w h p q room short e z = (λ t. withRoom (sym e t) (sym z t)) ∙ point-export net w h p q room
+
+module _ {A : Type 0} (net : List ℤ) (w h p q : ℕ) (out result : List A) where
+  -- a refused point
+  pub point-refused : {n m : ℕ} → m ≡ pointRefusal net w h p q → (pointRefusal net w h p q ≡ 0 → ⊥) → n ≡ withRoom (ltb (length out) 3) m →
+      (n ≡ pointExport net w h p q (length out)) × (out ≡ outputAfter n result out)
+  point-refused {n} {m} e k r = (
+    r ∙ ap (withRoom (ltb (length out) 3)) e ∙ point-export net w h p q (length out),
+    cond-false (accepted n) _ _ (ne-eqb n 0 (λ z. still-refused (ltb (length out) 3) m (λ y. k (sym e ∙ y)) (sym r ∙ z))) refl,
+  )

@@ -1,0 +1,45 @@
+-- The calls of document 01 for callers in C and Rust: an answer is document 01's number, 0 where the call is accepted, and a result goes into a
+-- lent output, in whose place document 01's order has 5.
+use mathlib.Core.Bool.{Bool, cond, _||_}
+use mathlib.Core.List.{List, [], _∷_}
+use Prim.Native.Nat.{ℕ}
+use lib.Dec.{ltb, eqb}
+use lib.IntN.{ℤ}
+use lib.ListN.{length}
+use Rattle.exact.specs.Filling.{over}
+use Rattle.net.specs.Net.{triangleAt}
+use Rattle.net.specs.TurnedAway.{firstFault, badSize, shortNet, accepted}
+use Rattle.surface.specs.BezierNet.{bezierNumbers}
+use Rattle.surface.specs.SurfacePoint.{chosen}
+use Rattle.surface.specs.TurnedAway.{noTriangle, noPlace, triangleBeyond}
+
+module _ {ℓ} {A : Type ℓ} where
+  -- the result over the front of a lent output where nothing is refused; else the output as it was
+  abbrev pub outputAfter : ℕ → List A → List A → List A
+  outputAfter refusal result out = cond (accepted refusal) (over result out) out
+
+-- `down` is 0 for the up triangle and 1 for the down triangle; another number names no triangle
+abbrev pub bezierExport : List ℤ → ℕ → ℕ → ℕ → ℕ → ℕ → ℕ → ℕ
+bezierExport net w h i j down room =
+    firstFault
+    ((badSize w h, 1)
+    ∷ (noTriangle w h i j || ltb 1 down, 6)
+    ∷ (shortNet net w h, 2)
+    ∷ (ltb room 57, 5)
+    ∷ (triangleBeyond net w (triangleAt i j (eqb down 1)), 3)
+    ∷ [])
+
+-- three numbers of room for a point
+abbrev pub pointExport : List ℤ → ℕ → ℕ → ℕ → ℕ → ℕ → ℕ
+pointExport net w h p q room =
+    firstFault
+    ((badSize w h, 1)
+    ∷ (noPlace w h p q, 6)
+    ∷ (shortNet net w h, 2)
+    ∷ (ltb room 3, 5)
+    ∷ (triangleBeyond net w (chosen 1024 w h p q), 3)
+    ∷ [])
+
+-- a refusal of a point, 0 for none, where the output is too short for it: 5 comes before 3
+abbrev pub withRoom : Bool → ℕ → ℕ
+withRoom short n = cond short (cond (eqb n 0 || eqb n 3) 5 n) n

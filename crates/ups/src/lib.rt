@@ -1,0 +1,135 @@
+// The static library: the calls of document 01 for C and Rust. A slice is a pointer and then a length; 0 is accepted, another number refuses.
+use net::bad_size;
+use net::store_point;
+use net::vertex_refusal;
+use surface::Answer;
+use surface::PointAnswer;
+use surface::ViewAnswer;
+use surface::ViewPoint;
+use surface::bezier_net;
+use surface::surface_point;
+use surface::view_point;
+ghost use mathlib.Core.Path.{_≡_};
+ghost use mathlib.Core.List.{[], _∷_};
+ghost use Prim.Native.Nat.{_≤_};
+ghost use lib.Dec.{ltb, eqb};
+ghost use lib.ListN.{length};
+ghost use Rattle.exact.specs.Filling.{over};
+ghost use Rattle.net.specs.Net.{triangleAt};
+ghost use Rattle.net.specs.TurnedAway.{vertexRefusal};
+ghost use Rattle.surface.specs.BezierNet.{bezierNumbers};
+ghost use Rattle.surface.specs.SurfacePoint.{surfacePoint};
+ghost use Rattle.surface.specs.Answers.{viewPoint};
+ghost use Rattle.ups.specs.Exports.{outputAfter, bezierExport, pointExport, withRoom};
+
+// 1, 6, 2, or 0: the companion of the vertex part.
+#[no_mangle]
+pub extern "C" fn ups_vertex_refusal(net: &[i32], w: usize, h: usize, i: usize, j: usize) -> u32
+    ensures { λ r. ⌜ r ≡ vertexRefusal (now (net .entry)) w h i j ⌝ }
+{
+    vertex_refusal(net, w, h, i, j)
+}
+
+// The 57 numbers of a Bézier net into `out`. `down` is 0 or 1.
+#[no_mangle]
+pub extern "C" fn ups_bezier_net(
+    net: &[i32],
+    w: usize,
+    h: usize,
+    i: usize,
+    j: usize,
+    down: u32,
+    out: &mut [i32],
+) -> u32
+    ensures { λ r. ⌜ r ≡ bezierExport (now (net .entry)) w h i j down (length (now (out .entry))) ⌝ }
+    ensures { λ r. ⌜ now (out .exit) ≡ outputAfter r (bezierNumbers (now (net .entry)) w (triangleAt i j (eqb down 1))) (now (out .entry)) ⌝ }
+{
+    if 1 < down {
+        if bad_size(w, h) {
+            return 1;
+        }
+        return 6;
+    }
+    let answer = bezier_net(net, w, h, i, j, down == 1, out);
+    match answer {
+        Answer::Done => 0,
+        Answer::Refused(n) => n,
+    }
+}
+
+// A refusal of a point, or 5 where the output has no room for it and nothing before 5 refuses.
+fn with_room(n: u32, room: usize) -> u32
+    ensures { λ r. ⌜ r ≡ withRoom (ltb room 3) n ⌝ }
+{
+    if room < 3 {
+        if n == 0 {
+            return 5;
+        }
+        if n == 3 {
+            return 5;
+        }
+    }
+    n
+}
+
+// The surface point's x, y, z into `out`.
+#[no_mangle]
+pub extern "C" fn ups_surface_point(
+    net: &[i32],
+    w: usize,
+    h: usize,
+    p: usize,
+    q: usize,
+    out: &mut [i32],
+) -> u32
+    ensures { λ r. ⌜ r ≡ pointExport (now (net .entry)) w h p q (length (now (out .entry))) ⌝ }
+    ensures { λ r. ⌜ now (out .exit) ≡ outputAfter r (surfacePoint (now (net .entry)) w h p q) (now (out .entry)) ⌝ }
+{
+    let answer = surface_point(net, w, h, p, q);
+    match answer {
+        PointAnswer::At(point) => {
+            if out.len() < 3 {
+                return 5;
+            }
+            store_point([point.x, point.y, point.z], 0, out);
+            0
+        }
+        PointAnswer::Refused(n) => with_room(n, out.len()),
+    }
+}
+
+// The three coordinates of a viewer's point over the front of `out`.
+fn store_view(point: ViewPoint, out: &mut [f64])
+    requires { ⌜ 3 ≤ length (now out) ⌝ }
+    ensures { λ r. ⌜ now (out .exit) ≡ over (point .x ∷ point .y ∷ point .z ∷ []) (now (out .entry)) ⌝ }
+{
+    out[0] = point.x;
+    out[1] = point.y;
+    out[2] = point.z;
+}
+
+// The viewer's point's x, y, z, in millimetres, into `out`.
+#[no_mangle]
+pub extern "C" fn ups_view_point(
+    net: &[i32],
+    w: usize,
+    h: usize,
+    p: usize,
+    q: usize,
+    out: &mut [f64],
+) -> u32
+    ensures { λ r. ⌜ r ≡ pointExport (now (net .entry)) w h p q (length (now (out .entry))) ⌝ }
+    ensures { λ r. ⌜ now (out .exit) ≡ outputAfter r (viewPoint (now (net .entry)) w h p q) (now (out .entry)) ⌝ }
+{
+    let answer = view_point(net, w, h, p, q);
+    match answer {
+        ViewAnswer::At(point) => {
+            if out.len() < 3 {
+                return 5;
+            }
+            store_view(point, out);
+            0
+        }
+        ViewAnswer::Refused(n) => with_room(n, out.len()),
+    }
+}

@@ -1,0 +1,139 @@
+//! A call described as data, so that faults can be put into it one by one and the library and
+//! the oracle get the same question.
+
+use crate::kernel::LentNet;
+use crate::oracle::{self, Faults};
+use std::fmt;
+
+#[derive(Clone, Copy, Debug, PartialEq, Eq)]
+pub enum Ask {
+    Vertex { i: usize, j: usize },
+    Bezier { i: usize, j: usize, down: u32 },
+    Surface { p: usize, q: usize },
+    View { p: usize, q: usize },
+}
+
+#[derive(Clone)]
+pub struct Call {
+    pub net: Vec<i32>,
+    pub w: usize,
+    pub h: usize,
+    pub ask: Ask,
+    pub out_len: usize,
+}
+
+#[derive(Clone, Debug, PartialEq, Eq)]
+pub enum Answer {
+    Refused(u32),
+    Accepted,
+    Numbers(Vec<i32>),
+    DoubleBits(Vec<u64>),
+}
+
+// The net itself would be too long in a message.
+impl fmt::Debug for Call {
+    fn fmt(&self, to: &mut fmt::Formatter) -> fmt::Result {
+        let (len, w, h) = (self.net.len(), self.w, self.h);
+        let (ask, out_len) = (self.ask, self.out_len);
+        write!(to, "{ask:?} on {w} by {h}, {len} numbers, output {out_len}")
+    }
+}
+
+impl Call {
+    /// A call on the whole net with an output as long as the result.
+    pub fn new(net: &[i32], (w, h): (usize, usize), ask: Ask) -> Self {
+        let out_len = match ask {
+            Ask::Vertex { .. } => 0,
+            Ask::Bezier { .. } => oracle::BEZIER_NUMBERS,
+            Ask::Surface { .. } | Ask::View { .. } => oracle::POINT_NUMBERS,
+        };
+        let net = net.to_vec();
+        Call {
+            net,
+            w,
+            h,
+            ask,
+            out_len,
+        }
+    }
+
+    /// The call's conditions of refusal in their order.
+    pub fn faults(&self) -> Faults {
+        let (net, size) = (&self.net, (self.w, self.h));
+        match self.ask {
+            Ask::Vertex { i, j } => oracle::vertex_faults(net, self.w, self.h, i, j),
+            Ask::Bezier { i, j, down } => {
+                oracle::bezier_faults(net, size, (i, j), down, self.out_len)
+            }
+            Ask::Surface { p, q } | Ask::View { p, q } => {
+                oracle::point_faults(net, size, (p, q), self.out_len)
+            }
+        }
+    }
+
+    pub fn of_oracle(&self) -> Answer {
+        let (net, size) = (&self.net, (self.w, self.h));
+        match self.ask {
+            Ask::Vertex { .. } => vertex_answer(oracle::refusal(&self.faults())),
+            Ask::Bezier { i, j, down } => {
+                numbers_answer(oracle::bezier_net(net, size, (i, j), down, self.out_len))
+            }
+            Ask::Surface { p, q } => {
+                numbers_answer(oracle::surface_point(net, size, (p, q), self.out_len))
+            }
+            Ask::View { p, q } => {
+                let point = oracle::surface_point(net, size, (p, q), self.out_len);
+                bits_answer(point.map(oracle::view_bits))
+            }
+        }
+    }
+
+    pub fn of_kernel(&self, net: &LentNet) -> Answer {
+        let size = (self.w, self.h);
+        match self.ask {
+            Ask::Vertex { i, j } => vertex_answer(net.vertex_refusal(self.w, self.h, i, j)),
+            Ask::Bezier { i, j, down } => {
+                numbers_answer(net.bezier_net(size, (i, j), down, self.out_len))
+            }
+            Ask::Surface { p, q } => numbers_answer(net.surface_point(size, (p, q), self.out_len)),
+            Ask::View { p, q } => bits_answer(net.view_point(size, (p, q), self.out_len)),
+        }
+    }
+
+    /// The library's answer, after comparison with the oracle's.
+    pub fn check(&self) -> Answer {
+        let answer = self.of_kernel(&LentNet::new(&self.net));
+        assert_eq!(answer, self.of_oracle(), "{self:?}");
+        answer
+    }
+
+    /// Checks the answer and expects this refusal, 0 for none.
+    pub fn expect(&self, refusal: u32) {
+        let number = match self.check() {
+            Answer::Refused(number) => number,
+            _ => 0,
+        };
+        assert_eq!(number, refusal, "{self:?}");
+    }
+}
+
+fn vertex_answer(refusal: u32) -> Answer {
+    match refusal {
+        0 => Answer::Accepted,
+        number => Answer::Refused(number),
+    }
+}
+
+fn numbers_answer<const N: usize>(answer: Result<[i32; N], u32>) -> Answer {
+    match answer {
+        Ok(numbers) => Answer::Numbers(numbers.to_vec()),
+        Err(number) => Answer::Refused(number),
+    }
+}
+
+fn bits_answer<const N: usize>(answer: Result<[u64; N], u32>) -> Answer {
+    match answer {
+        Ok(bits) => Answer::DoubleBits(bits.to_vec()),
+        Err(number) => Answer::Refused(number),
+    }
+}

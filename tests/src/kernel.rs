@@ -1,0 +1,231 @@
+//! The library's calls with guarded memory.
+//!
+//! Every lent slice lies between canary values. After each call the wrappers assert that the
+//! canaries and the net are unchanged, that a refusal left the output unchanged bit for bit,
+//! and that an accepted call left everything behind its result unchanged.
+
+use crate::oracle::{BEZIER_NUMBERS, POINT_NUMBERS};
+use crate::pages::{Pages, Side};
+use crate::random::mix;
+use std::cell::RefCell;
+
+mod raw {
+    extern "C" {
+        pub fn ups_vertex_refusal(
+            net: *const i32,
+            len: usize,
+            w: usize,
+            h: usize,
+            i: usize,
+            j: usize,
+        ) -> u32;
+        pub fn ups_bezier_net(
+            net: *const i32,
+            len: usize,
+            w: usize,
+            h: usize,
+            i: usize,
+            j: usize,
+            down: u32,
+            out: *mut i32,
+            out_len: usize,
+        ) -> u32;
+        pub fn ups_surface_point(
+            net: *const i32,
+            len: usize,
+            w: usize,
+            h: usize,
+            p: usize,
+            q: usize,
+            out: *mut i32,
+            out_len: usize,
+        ) -> u32;
+        pub fn ups_view_point(
+            net: *const i32,
+            len: usize,
+            w: usize,
+            h: usize,
+            p: usize,
+            q: usize,
+            out: *mut f64,
+            out_len: usize,
+        ) -> u32;
+    }
+}
+
+/// Canary values on each side of a lent slice.
+const GUARD: usize = 128;
+
+/// A number that can be lent, with a canary value for each position.
+pub trait Number: Copy {
+    fn canary(position: usize) -> Self;
+    fn bits(self) -> u64;
+}
+
+impl Number for i32 {
+    fn canary(position: usize) -> Self {
+        mix(position as u64 + 1) as i32
+    }
+
+    fn bits(self) -> u64 {
+        u64::from(self as u32)
+    }
+}
+
+impl Number for f64 {
+    // Any bit pattern, not-a-numbers as well.
+    fn canary(position: usize) -> Self {
+        f64::from_bits(mix(position as u64 + 1))
+    }
+
+    fn bits(self) -> u64 {
+        self.to_bits()
+    }
+}
+
+/// A lent output, filled with canary values as well.
+struct Output<T> {
+    memory: Vec<T>,
+    len: usize,
+}
+
+impl<T: Number> Output<T> {
+    fn new(len: usize) -> Self {
+        Output {
+            memory: (0..len + 2 * GUARD).map(T::canary).collect(),
+            len,
+        }
+    }
+
+    fn pointer(&mut self) -> *mut T {
+        self.memory[GUARD..].as_mut_ptr()
+    }
+
+    /// The first `N` numbers when accepted; checks everything that must not have changed.
+    fn result<const N: usize>(&self, refusal: u32) -> Result<[T; N], u32> {
+        let written = if refusal == 0 { N } else { 0 };
+        assert!(written <= self.len, "accepted with a short output");
+        for (position, x) in self.memory.iter().enumerate() {
+            let result = GUARD..GUARD + written;
+            if !result.contains(&position) && x.bits() != T::canary(position).bits() {
+                let at = position as i64 - GUARD as i64;
+                panic!("refusal {refusal}: output position {at} changed");
+            }
+        }
+        match refusal {
+            0 => Ok(std::array::from_fn(|n| self.memory[GUARD + n])),
+            number => Err(number),
+        }
+    }
+}
+
+enum Memory {
+    // In a cell, since the library gets a pointer into it and might write.
+    Canaries(RefCell<Vec<i32>>),
+    Pages(Pages),
+}
+
+/// A lent net.
+pub struct LentNet {
+    numbers: Vec<i32>,
+    memory: Memory,
+}
+
+impl LentNet {
+    /// Lends the numbers between canary values.
+    pub fn new(numbers: &[i32]) -> Self {
+        let mut memory: Vec<i32> = (0..GUARD).map(i32::canary).collect();
+        memory.extend_from_slice(numbers);
+        memory.extend((0..GUARD).map(i32::canary));
+        LentNet {
+            numbers: numbers.to_vec(),
+            memory: Memory::Canaries(RefCell::new(memory)),
+        }
+    }
+
+    /// Lends the numbers in read-only pages, next to an inaccessible page on one side.
+    pub fn in_pages(numbers: &[i32], side: Side) -> Self {
+        LentNet {
+            numbers: numbers.to_vec(),
+            memory: Memory::Pages(Pages::new(numbers, side)),
+        }
+    }
+
+    fn pointer(&self) -> *const i32 {
+        match &self.memory {
+            Memory::Canaries(memory) => memory.borrow_mut()[GUARD..].as_mut_ptr(),
+            Memory::Pages(pages) => pages.numbers().as_ptr(),
+        }
+    }
+
+    fn check(&self) {
+        match &self.memory {
+            Memory::Canaries(memory) => {
+                let memory = memory.borrow();
+                let (front, rest) = memory.split_at(GUARD);
+                let (numbers, back) = rest.split_at(self.numbers.len());
+                assert!(numbers == self.numbers, "the net changed");
+                for guard in [front, back] {
+                    let canaries = (0..GUARD).map(i32::canary);
+                    assert!(canaries.eq(guard.iter().copied()), "a net canary changed");
+                }
+            }
+            Memory::Pages(pages) => assert!(pages.numbers() == self.numbers, "the net changed"),
+        }
+    }
+
+    pub fn vertex_refusal(&self, w: usize, h: usize, i: usize, j: usize) -> u32 {
+        let (net, len) = (self.pointer(), self.numbers.len());
+        // SAFETY: `len` numbers are lent.
+        let refusal = unsafe { raw::ups_vertex_refusal(net, len, w, h, i, j) };
+        self.check();
+        refusal
+    }
+
+    pub fn bezier_net(
+        &self,
+        (w, h): (usize, usize),
+        (i, j): (usize, usize),
+        down: u32,
+        out_len: usize,
+    ) -> Result<[i32; BEZIER_NUMBERS], u32> {
+        let mut output = Output::<i32>::new(out_len);
+        let (net, len) = (self.pointer(), self.numbers.len());
+        // SAFETY: `len` numbers and `out_len` numbers are lent.
+        let refusal =
+            unsafe { raw::ups_bezier_net(net, len, w, h, i, j, down, output.pointer(), out_len) };
+        self.check();
+        output.result(refusal)
+    }
+
+    pub fn surface_point(
+        &self,
+        (w, h): (usize, usize),
+        (p, q): (usize, usize),
+        out_len: usize,
+    ) -> Result<[i32; POINT_NUMBERS], u32> {
+        let mut output = Output::<i32>::new(out_len);
+        let (net, len) = (self.pointer(), self.numbers.len());
+        // SAFETY: `len` numbers and `out_len` numbers are lent.
+        let refusal =
+            unsafe { raw::ups_surface_point(net, len, w, h, p, q, output.pointer(), out_len) };
+        self.check();
+        output.result(refusal)
+    }
+
+    /// The doubles are handed back as bits.
+    pub fn view_point(
+        &self,
+        (w, h): (usize, usize),
+        (p, q): (usize, usize),
+        out_len: usize,
+    ) -> Result<[u64; POINT_NUMBERS], u32> {
+        let mut output = Output::<f64>::new(out_len);
+        let (net, len) = (self.pointer(), self.numbers.len());
+        // SAFETY: `len` numbers and `out_len` doubles are lent.
+        let refusal =
+            unsafe { raw::ups_view_point(net, len, w, h, p, q, output.pointer(), out_len) };
+        self.check();
+        output.result(refusal).map(|point| point.map(f64::to_bits))
+    }
+}

@@ -1,0 +1,13 @@
+//! Tests of the library `ups` against exact rational arithmetic.
+//!
+//! `oracle` writes the definitions down in exact rationals, `kernel` calls the library with
+//! guarded memory, `call` asks both the same question. A further subject of the library gets
+//! its own definitions in `oracle`, its own wrapper in `kernel` and a case of `call::Ask`.
+
+pub mod call;
+pub mod kernel;
+pub mod nets;
+pub mod oracle;
+pub mod pages;
+pub mod random;
+pub mod rational;

@@ -1,0 +1,118 @@
+//! Nets and places to test with.
+
+use crate::oracle::LIMIT;
+use crate::random::Random;
+
+/// The door corner, 2 by 2, with the given z of c1 of vertex (0, 0).
+pub fn door_corner(z: i32) -> Vec<i32> {
+    let mut net = Vec::new();
+    for j in 0..2 {
+        for i in 0..2 {
+            let (x, y) = (1200 * i, 1200 * j);
+            let c1_z = if (i, j) == (0, 0) { z } else { 0 };
+            net.extend([x + 600, y, c1_z]);
+            net.extend([x - 600, y + 600, 0]);
+            net.extend([x, y - 600, 0]);
+        }
+    }
+    net
+}
+
+#[derive(Clone, Copy, Debug)]
+pub enum Numbers {
+    /// From -50 to 50.
+    Small,
+    /// Any in range.
+    Large,
+    /// The two ends of the range.
+    Extreme,
+    /// Each number one of the three.
+    Mixed,
+}
+
+pub const NUMBERS: [Numbers; 4] = [
+    Numbers::Small,
+    Numbers::Large,
+    Numbers::Extreme,
+    Numbers::Mixed,
+];
+
+pub fn random_number(random: &mut Random, numbers: Numbers) -> i32 {
+    match numbers {
+        Numbers::Small => random.between(-50, 50),
+        Numbers::Large => random.between(-LIMIT, LIMIT),
+        Numbers::Extreme => random.pick(&[-LIMIT, LIMIT]),
+        Numbers::Mixed => {
+            let numbers = random.pick(&[Numbers::Small, Numbers::Large, Numbers::Extreme]);
+            random_number(random, numbers)
+        }
+    }
+}
+
+pub fn random_net(random: &mut Random, (w, h): (usize, usize), numbers: Numbers) -> Vec<i32> {
+    (0..9 * w * h)
+        .map(|_| random_number(random, numbers))
+        .collect()
+}
+
+/// Sides of 2 to 9 vertices.
+pub fn random_size(random: &mut Random) -> (usize, usize) {
+    (2 + random.below(8), 2 + random.below(8))
+}
+
+/// At least 100 places of a net of the given size.
+pub fn places(random: &mut Random, (w, h): (usize, usize)) -> Vec<(usize, usize)> {
+    const D: usize = 1024;
+    let (last_p, last_q) = (D * (w - 1), D * (h - 1));
+    // The vertices at the four corners of the net, and some others.
+    let mut places = vec![(0, 0), (last_p, 0), (0, last_q), (last_p, last_q)];
+    for _ in 0..4 {
+        places.push((D * random.below(w), D * random.below(h)));
+    }
+    // Horizontal and vertical edges, among them the last row and the last column.
+    for _ in 0..6 {
+        places.push((random.below(last_p + 1), D * random.below(h)));
+        places.push((random.below(last_p + 1), last_q));
+        places.push((D * random.below(w), random.below(last_q + 1)));
+        places.push((last_p, random.below(last_q + 1)));
+    }
+    // In a cell: the diagonal edge and the lines where two shares are equal, three in the up
+    // triangle and three in the down triangle.
+    for _ in 0..4 {
+        let t = random.below(D / 2 + 1);
+        let lines = [
+            (2 * t, D - 2 * t),
+            (t, t),
+            (t, D - 2 * t),
+            (D - 2 * t, t),
+            (D - t, D - t),
+            (D - t, 2 * t),
+            (2 * t, D - t),
+        ];
+        for (f, g) in lines {
+            let (i, j) = (random.below(w - 1), random.below(h - 1));
+            places.push((D * i + f, D * j + g));
+        }
+    }
+    // Next to the centre of a triangle.
+    for _ in 0..4 {
+        let centre = random.pick(&[341, 682]);
+        let (i, j) = (random.below(w - 1), random.below(h - 1));
+        places.push((
+            D * i + centre + random.below(2),
+            D * j + centre + random.below(2),
+        ));
+    }
+    // Next to all these lines.
+    for _ in 0..24 {
+        let (p, q) = random.pick(&places);
+        let p = (p + random.below(3)).saturating_sub(1).min(last_p);
+        let q = (q + random.below(3)).saturating_sub(1).min(last_q);
+        places.push((p, q));
+    }
+    for _ in 0..24 {
+        places.push((random.below(last_p + 1), random.below(last_q + 1)));
+    }
+    assert!(places.len() >= 100);
+    places
+}

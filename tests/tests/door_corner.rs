@@ -1,0 +1,267 @@
+//! The worked cases of the specification.
+
+use ups_tests::call::{Answer, Ask, Call};
+use ups_tests::kernel::LentNet;
+use ups_tests::nets::door_corner;
+use ups_tests::oracle::{self, Net, EDGE, LIMIT};
+use ups_tests::rational::Rational;
+
+const SIZE: (usize, usize) = (2, 2);
+
+fn z_numbers(numbers: &[i32]) -> Vec<i32> {
+    numbers.iter().skip(2).step_by(3).copied().collect()
+}
+
+/// The surface point, after comparison with the oracle and with the viewer's point.
+fn point(net: &[i32], p: usize, q: usize) -> [i32; 3] {
+    let answer = Call::new(net, SIZE, Ask::Surface { p, q }).check();
+    let Answer::Numbers(numbers) = answer else {
+        panic!("({p}, {q}): {answer:?}");
+    };
+    let point = [numbers[0], numbers[1], numbers[2]];
+    let view = Call::new(net, SIZE, Ask::View { p, q }).check();
+    let bits = point.map(|x| (f64::from(x) / 1024.0).to_bits());
+    assert_eq!(view, Answer::DoubleBits(bits.to_vec()));
+    point
+}
+
+fn bezier(net: &[i32], down: u32) -> Vec<i32> {
+    let ask = Ask::Bezier { i: 0, j: 0, down };
+    let answer = Call::new(net, SIZE, ask).check();
+    let Answer::Numbers(numbers) = answer else {
+        panic!("{answer:?}");
+    };
+    numbers
+}
+
+#[test]
+fn the_net_is_the_one_written_in_the_specification() {
+    assert_eq!(
+        door_corner(120),
+        [
+            600, 0, 120, -600, 600, 0, 0, -600, 0, //
+            1800, 0, 0, 600, 600, 0, 1200, -600, 0, //
+            600, 1200, 0, -600, 1800, 0, 0, 600, 0, //
+            1800, 1200, 0, 600, 1800, 0, 1200, 600, 0,
+        ]
+    );
+}
+
+#[test]
+fn points_of_the_door_corner() {
+    let net = door_corner(120);
+    assert_eq!(point(&net, 0, 0), [0, 0, 40]);
+    assert_eq!(point(&net, 512, 0), [600, 0, 40]);
+    assert_eq!(point(&net, 0, 512), [0, 600, 30]);
+    assert_eq!(point(&net, 256, 256), [300, 300, 48]);
+}
+
+#[test]
+fn points_of_the_door_corner_turned_over() {
+    let net = door_corner(-120);
+    assert_eq!(point(&net, 0, 0), [0, 0, -40]);
+    assert_eq!(point(&net, 512, 0), [600, 0, -40]);
+    assert_eq!(point(&net, 0, 512), [0, 600, -30]);
+    assert_eq!(point(&net, 256, 256), [300, 300, -47]);
+}
+
+#[test]
+fn the_middle_point_is_exactly_forty_seven_and_a_half() {
+    for (z, expected) in [(120, 95), (-120, -95)] {
+        let numbers = door_corner(z);
+        let exact = Net::new(&numbers, 2, 2).exact(256, 256, EDGE);
+        assert_eq!(exact[2], Rational::new(expected, 2));
+    }
+}
+
+/// Refined vertex (i, j) lies at place (512i, 512j). Refining this net gives whole numbers, so
+/// the listing's rows are surface points of the starting net.
+#[test]
+fn the_rows_of_the_listing() {
+    let rows = [
+        (0, 0, [0, 0, 40]),
+        (1, 0, [600, 0, 40]),
+        (2, 0, [1200, 0, 0]),
+        (0, 1, [0, 600, 30]),
+        (1, 1, [600, 600, 0]),
+        (2, 1, [1200, 600, 0]),
+        (0, 2, [0, 1200, 0]),
+        (1, 2, [600, 1200, 0]),
+        (2, 2, [1200, 1200, 0]),
+    ];
+    let net = door_corner(120);
+    for (i, j, expected) in rows {
+        assert_eq!(point(&net, 512 * i, 512 * j), expected, "row {i} {j}");
+    }
+}
+
+#[test]
+fn bezier_net_of_the_up_triangle() {
+    let numbers = bezier(&door_corner(120), 0);
+    let expected = [
+        1440, 0, 0, 2880, 2160, 0, 0, 0, 0, 2880, 0, 0, 1440, 1080, 0, 1440, 1440, 0, 960,
+    ];
+    assert_eq!(z_numbers(&numbers), expected);
+    let numbers = bezier(&door_corner(-120), 0);
+    assert_eq!(z_numbers(&numbers), expected.map(|z| -z));
+}
+
+#[test]
+fn bezier_net_of_the_down_triangle_is_flat() {
+    assert_eq!(z_numbers(&bezier(&door_corner(120), 1)), [0; 19]);
+}
+
+/// x and y of the door corner are linear: the points lie at their places in the grid.
+#[test]
+fn bezier_net_x_and_y_of_the_up_triangle() {
+    let numbers = bezier(&door_corner(120), 0);
+    let x: Vec<i32> = numbers.iter().step_by(3).copied().collect();
+    let y: Vec<i32> = numbers.iter().skip(1).step_by(3).copied().collect();
+    let twelfths_x = [0, 12, 0, 3, 0, 9, 9, 0, 3, 2, 8, 2, 6, 0, 6, 5, 2, 5, 4];
+    let twelfths_y = [0, 0, 12, 0, 3, 0, 3, 9, 9, 2, 2, 8, 0, 6, 6, 2, 5, 5, 4];
+    assert_eq!(x, twelfths_x.map(|n| 3600 * n));
+    assert_eq!(y, twelfths_y.map(|n| 3600 * n));
+}
+
+#[test]
+fn x_and_y_of_the_door_corner_are_linear() {
+    let numbers = door_corner(120);
+    let net = LentNet::new(&numbers);
+    let linear = |place: usize| Rational::new(1200 * place as i128, 1024).rounded();
+    for q in (0..=1024).step_by(8) {
+        for p in (0..=1024).step_by(8) {
+            let [x, y, _] = net.surface_point(SIZE, (p, q), 3).expect("accepted");
+            assert_eq!((i128::from(x), i128::from(y)), (linear(p), linear(q)));
+        }
+    }
+}
+
+/// At place (0, 512) the z of c1 of (0, 0) counts one quarter, so each number of quarters over
+/// or under a whole number can be set up.
+#[test]
+fn quarters_are_rounded_once_with_halves_upwards() {
+    for (base, quarters, expected) in [
+        (-48, 0, -48),
+        (-48, 1, -48), // -47.75: division towards zero would give -47
+        (-48, 2, -47), // -47.5
+        (-48, 3, -47),
+        (47, 1, 47),
+        (47, 2, 48),
+        (47, 3, 48),
+        (-1, 1, -1),
+        (-1, 2, 0), // -0.5
+        (-1, 3, 0),
+        (0, 1, 0),
+        (0, 2, 1),
+    ] {
+        let mut net = door_corner(0);
+        for z in net.iter_mut().skip(2).step_by(3) {
+            *z = base;
+        }
+        net[2] = base + quarters;
+        assert_eq!(point(&net, 0, 512)[2], expected, "{base} + {quarters}/4");
+    }
+}
+
+#[test]
+fn examples_of_refusals() {
+    let net = door_corner(120);
+    let asks = [
+        Ask::Vertex { i: 0, j: 0 },
+        Ask::Bezier {
+            i: 0,
+            j: 0,
+            down: 0,
+        },
+        Ask::Surface { p: 0, q: 0 },
+        Ask::View { p: 0, q: 0 },
+    ];
+    for ask in asks {
+        Call::new(&net, SIZE, ask).expect(0);
+        Call::new(&net, (1, 2), ask).expect(1);
+        Call::new(&net[..35], SIZE, ask).expect(2);
+        let mut beyond = net.clone();
+        beyond[0] = 16_777_217;
+        let number = if matches!(ask, Ask::Vertex { .. }) {
+            0
+        } else {
+            3
+        };
+        Call::new(&beyond, SIZE, ask).expect(number);
+    }
+    for ask in [Ask::Surface { p: 1025, q: 0 }, Ask::View { p: 1025, q: 0 }] {
+        Call::new(&net, SIZE, ask).expect(6);
+    }
+}
+
+#[test]
+fn accepted_at_the_edge() {
+    let net = door_corner(120);
+    assert_eq!(point(&net, 1024, 0), [1200, 0, 0]);
+    for edge in [LIMIT, -LIMIT] {
+        assert_eq!(edge.abs(), 16_777_216);
+        let full = vec![edge; 36];
+        assert_eq!(point(&full, 300, 200), [edge; 3]);
+        assert_eq!(bezier(&full, 0), [36 * edge; 57]);
+        assert_eq!(bezier(&full, 1), [36 * edge; 57]);
+        let mut one = net.clone();
+        one[0] = edge;
+        point(&one, 300, 200);
+        bezier(&one, 0);
+    }
+}
+
+#[test]
+fn the_greatest_net_is_accepted() {
+    const SIDE: usize = 1025;
+    let size = (SIDE, SIDE);
+    let numbers: Vec<i32> = (0..9 * SIDE * SIDE)
+        .map(|n| (n as i32).wrapping_mul(0x2545_f491) >> 8)
+        .collect();
+    assert!(numbers.iter().all(|x| (-LIMIT..=LIMIT).contains(x)));
+    let net = LentNet::new(&numbers);
+    assert_eq!(net.vertex_refusal(SIDE, SIDE, 1024, 1024), 0);
+    assert_eq!(net.vertex_refusal(SIDE, SIDE, 1025, 1024), 6);
+    let last = 1024 * 1024;
+    for place in [
+        (last, last),
+        (last, 0),
+        (0, last),
+        (last - 1, 512 * 1024 + 3),
+    ] {
+        let expected = oracle::surface_point(&numbers, size, place, 3);
+        assert!(expected.is_ok());
+        assert_eq!(net.surface_point(size, place, 3), expected);
+        let view = net.view_point(size, place, 3);
+        assert_eq!(view, expected.map(oracle::view_bits));
+    }
+    for down in [0, 1] {
+        let expected = oracle::bezier_net(&numbers, size, (1023, 1023), down, 57);
+        assert!(expected.is_ok());
+        assert_eq!(net.bezier_net(size, (1023, 1023), down, 57), expected);
+    }
+}
+
+#[test]
+fn one_vertex_more_a_side_is_refused() {
+    let numbers = vec![0; 9 * 1026 * 1026];
+    let net = LentNet::new(&numbers);
+    for size in [
+        (1026, 1026),
+        (1026, 1025),
+        (1025, 1026),
+        (1026, 2),
+        (2, 1026),
+    ] {
+        assert_eq!(net.vertex_refusal(size.0, size.1, 0, 0), 1);
+        assert_eq!(net.bezier_net(size, (0, 0), 0, 57), Err(1));
+        assert_eq!(net.surface_point(size, (0, 0), 3), Err(1));
+        assert_eq!(net.view_point(size, (0, 0), 3), Err(1));
+    }
+    for size in [(1025, 1025), (1025, 2), (2, 1025)] {
+        assert_eq!(net.vertex_refusal(size.0, size.1, 0, 0), 0);
+        assert_eq!(net.bezier_net(size, (0, 0), 0, 57), Ok([0; 57]));
+        assert_eq!(net.surface_point(size, (0, 0), 3), Ok([0; 3]));
+        assert_eq!(net.view_point(size, (0, 0), 3), Ok([0; 3]));
+    }
+}

@@ -1,0 +1,293 @@
+//! The oracle's own parts.
+
+use ups_tests::nets::{self, NUMBERS};
+use ups_tests::oracle::{self, chosen_triangle, triangles_at, Kind, Net, Patch, Triangle, EDGE};
+use ups_tests::random::Random;
+use ups_tests::rational::Rational;
+
+fn ratio(numerator: i128, denominator: i128) -> Rational {
+    Rational::new(numerator, denominator)
+}
+
+#[test]
+fn rationals_are_reduced_with_a_positive_denominator() {
+    for (n, d, expected) in [
+        (6, 4, (3, 2)),
+        (-6, 4, (-3, 2)),
+        (6, -4, (-3, 2)),
+        (-6, -4, (3, 2)),
+        (0, -7, (0, 1)),
+    ] {
+        let x = ratio(n, d);
+        assert_eq!((x.numerator(), x.denominator()), expected);
+    }
+    // Beyond 64 bits as well.
+    let wide = 3 * (1 << 80);
+    assert_eq!(ratio(5 * wide, 10 * wide), ratio(1, 2));
+}
+
+#[test]
+fn rational_arithmetic_is_exact() {
+    assert_eq!(ratio(1, 2) + ratio(1, 3), ratio(5, 6));
+    assert_eq!(ratio(1, 2) + ratio(1, 2), ratio(1, 1));
+    assert_eq!(ratio(1, 2) - ratio(2, 3), ratio(-1, 6));
+    assert_eq!(ratio(-2, 3) * ratio(9, 4), ratio(-3, 2));
+    assert_eq!(ratio(-2, 3) / ratio(-4, 9), ratio(3, 2));
+    assert!(ratio(-1, 2) < ratio(-1, 3));
+    assert!(ratio(2, 3) > ratio(3, 5));
+    assert!(ratio(2, 4) >= ratio(1, 2));
+}
+
+#[test]
+fn floor_goes_down_on_both_sides_of_zero() {
+    for (n, d, expected) in [
+        (7, 2, 3),
+        (-7, 2, -4),
+        (-8, 2, -4),
+        (8, 2, 4),
+        (0, 5, 0),
+        (-1, 1024, -1),
+        (1, 1024, 0),
+        (-189, 4, -48),
+    ] {
+        assert_eq!(ratio(n, d).floor(), expected, "{n}/{d}");
+    }
+}
+
+#[test]
+fn rounding_takes_halves_upwards() {
+    for (quarters, expected) in [
+        (190, 48),   // 47.5
+        (189, 47),   // 47.25
+        (191, 48),   // 47.75
+        (-190, -47), // -47.5
+        (-191, -48), // -47.75, plus a half is -47.25
+        (-189, -47), // -47.25
+        (-2, 0),
+        (2, 1),
+        (-1, 0),
+        (-3, -1),
+        (0, 0),
+        (-4, -1),
+    ] {
+        assert_eq!(
+            ratio(quarters, 4).rounded(),
+            expected,
+            "{quarters} quarters"
+        );
+    }
+}
+
+#[test]
+fn cells_and_triangles_follow_the_definition() {
+    let up = |i, j| Triangle::new(Kind::Up, i, j);
+    let down = |i, j| Triangle::new(Kind::Down, i, j);
+    for (p, q, expected) in [
+        (0, 0, up(0, 0)),
+        (512, 512, up(0, 0)),
+        (512, 513, down(0, 0)),
+        (1023, 1023, down(0, 0)),
+        (1024, 0, up(1, 0)),
+        (1024, 1, up(1, 0)),
+        (0, 1024, up(0, 1)),
+        (1024, 1024, up(1, 1)),
+        // The last column and row of 3 by 3 belong to the cells before them.
+        (2048, 0, up(1, 0)),
+        (2048, 1, down(1, 0)),
+        (2048, 1024, up(1, 1)),
+        (0, 2048, up(0, 1)),
+        (1, 2048, down(0, 1)),
+        (2048, 2048, down(1, 1)),
+    ] {
+        assert_eq!(chosen_triangle(3, 3, p, q, EDGE), expected, "({p}, {q})");
+    }
+    assert_eq!(
+        up(2, 3).shares(2 * 1024 + 100, 3 * 1024 + 24, EDGE),
+        [900, 100, 24]
+    );
+    assert_eq!(
+        down(2, 3).shares(2 * 1024 + 1000, 3 * 1024 + 100, EDGE),
+        [924, 24, 76]
+    );
+}
+
+#[test]
+fn a_place_lies_in_up_to_six_triangles() {
+    for (p, q, count) in [
+        (1024, 1024, 6),
+        (0, 0, 1),
+        (2048, 0, 2),
+        (0, 2048, 2),
+        (2048, 2048, 1),
+        (1024, 0, 3),
+        (500, 524, 2),
+        (500, 1024, 2),
+        (500, 0, 1),
+        (1024, 500, 2),
+        (300, 200, 1),
+        (900, 800, 1),
+    ] {
+        let triangles = triangles_at(3, 3, p, q, EDGE);
+        assert_eq!(triangles.len(), count, "({p}, {q})");
+        assert!(triangles.contains(&chosen_triangle(3, 3, p, q, EDGE)));
+    }
+}
+
+#[test]
+fn the_exact_value_is_the_same_in_every_triangle_that_holds_the_place() {
+    let mut random = Random::new(11);
+    for round in 0..120 {
+        let (w, h) = nets::random_size(&mut random);
+        let numbers = nets::random_net(&mut random, (w, h), NUMBERS[round % 4]);
+        let net = Net::new(&numbers, w, h);
+        for edge in [1024, 1, 6, 7, 65536] {
+            for _ in 0..12 {
+                let i = random.below(w) as i128;
+                let j = random.below(h) as i128;
+                let t = random.below(edge as usize + 1) as i128;
+                let inside = |(p, q): &(i128, i128)| {
+                    (0..=edge * (w as i128 - 1)).contains(p)
+                        && (0..=edge * (h as i128 - 1)).contains(q)
+                };
+                let places = [
+                    (edge * i, edge * j),
+                    (edge * i + t, edge * j),
+                    (edge * i, edge * j + t),
+                    (edge * i + t, edge * (j + 1) - t),
+                ];
+                for (p, q) in places.into_iter().filter(inside) {
+                    let exact = net.exact(p, q, edge);
+                    let triangles = triangles_at(w, h, p, q, edge);
+                    assert!(!triangles.is_empty());
+                    for triangle in triangles {
+                        assert_eq!(net.exact_in(triangle, p, q, edge), exact);
+                    }
+                }
+            }
+        }
+    }
+}
+
+#[test]
+fn the_exact_value_does_not_depend_on_the_edge_count() {
+    let mut random = Random::new(12);
+    for round in 0..40 {
+        let (w, h) = nets::random_size(&mut random);
+        let numbers = nets::random_net(&mut random, (w, h), NUMBERS[round % 4]);
+        let net = Net::new(&numbers, w, h);
+        for (p, q) in nets::places(&mut random, (w, h)) {
+            let (p, q) = (p as i128, q as i128);
+            let exact = net.exact(p, q, EDGE);
+            for factor in [2, 3, 64] {
+                assert_eq!(net.exact(factor * p, factor * q, factor * EDGE), exact);
+            }
+        }
+    }
+}
+
+/// Along a line through a place the spline is a quadratic on each side. With equal slopes on
+/// both sides the second difference of twice the step is four times that of the step.
+#[test]
+fn the_exact_spline_has_no_kink() {
+    let mut random = Random::new(13);
+    // Places at multiples of 8 keep every other line of the split more than 6 units away.
+    let edge = 96;
+    let (w, h) = (4, 4);
+    for round in 0..8 {
+        let numbers = nets::random_net(&mut random, (w, h), NUMBERS[round % 4]);
+        let net = Net::new(&numbers, w, h);
+        for q in (8..edge * 3).step_by(8) {
+            for p in (8..edge * 3).step_by(8) {
+                for (x, y) in [(1, 0), (0, 1), (1, -1), (1, 1), (2, -1), (1, -2)] {
+                    let second = |step: i128| {
+                        let before = net.exact(p - step * x, q - step * y, edge);
+                        let here = net.exact(p, q, edge);
+                        let after = net.exact(p + step * x, q + step * y, edge);
+                        [0, 1, 2].map(|c| before[c] - here[c] - here[c] + after[c])
+                    };
+                    let four = Rational::whole(4);
+                    assert_eq!(second(2), second(1).map(|x| four * x), "({p}, {q})");
+                }
+            }
+        }
+    }
+}
+
+#[test]
+fn bezier_points_of_an_even_net_lie_at_their_places() {
+    // Control point k of a vertex lies half a step ek away, so x and y are the grid's.
+    let numbers = nets::door_corner(0);
+    let net = Net::new(&numbers, 2, 2);
+    let patch = |kind| Patch::new(&net, Triangle::new(kind, 0, 0)).points();
+    let twelfths = |points: [oracle::Point; 19]| {
+        points.map(|[x, y, _]| (x / ratio(100, 1), y / ratio(100, 1)))
+    };
+    let expected_up = [
+        (0, 0),
+        (12, 0),
+        (0, 12),
+        (3, 0),
+        (0, 3),
+        (9, 0),
+        (9, 3),
+        (0, 9),
+        (3, 9),
+        (2, 2),
+        (8, 2),
+        (2, 8),
+        (6, 0),
+        (0, 6),
+        (6, 6),
+        (5, 2),
+        (2, 5),
+        (5, 5),
+        (4, 4),
+    ];
+    let expected_down = [
+        (12, 0),
+        (0, 12),
+        (12, 12),
+        (9, 3),
+        (12, 3),
+        (3, 9),
+        (3, 12),
+        (12, 9),
+        (9, 12),
+        (10, 4),
+        (4, 10),
+        (10, 10),
+        (6, 6),
+        (12, 6),
+        (6, 12),
+        (7, 7),
+        (10, 7),
+        (7, 10),
+        (8, 8),
+    ];
+    let whole = |(x, y)| (Rational::whole(x), Rational::whole(y));
+    assert_eq!(twelfths(patch(Kind::Up)), expected_up.map(whole));
+    assert_eq!(twelfths(patch(Kind::Down)), expected_down.map(whole));
+}
+
+#[test]
+fn refusals_of_the_oracle_hold_for_the_greatest_sizes() {
+    const MAX: usize = usize::MAX;
+    let net = [0; 36];
+    let all = |faults: oracle::Faults| faults.iter().map(|f| f.0).collect::<Vec<_>>();
+    assert_eq!(
+        all(oracle::vertex_faults(&net, MAX, MAX, MAX, MAX)),
+        [true; 3]
+    );
+    assert_eq!(
+        all(oracle::point_faults(&net, (MAX, MAX), (MAX, MAX), 0)),
+        [true, false, true, true, false]
+    );
+    assert_eq!(
+        all(oracle::bezier_faults(&net, (MAX, 0), (MAX, MAX), 2, 0)),
+        [true, true, false, true, false]
+    );
+    assert_eq!(
+        all(oracle::bezier_faults(&net, (2, 2), (0, 0), 0, 57)),
+        [false; 5]
+    );
+}
