@@ -1,6 +1,6 @@
 -- Corners of triangles: their neighbours by steps, and their places in storage.
 use mathlib.Core.Path.{_≡_, refl, ap, _∙_}
-use mathlib.Core.Bool.{Bool, true, false}
+use mathlib.Core.Bool.{Bool, true, false, _||_}
 use mathlib.Core.List.{List, [], _∷_}
 use Prim.Native.Nat.{ℕ, _+_, _-_, _≤_, _<_}
 use native.Mathlib.Omega.{arith}
@@ -43,19 +43,30 @@ corner-ends net w i j l true one = omega (arith, l .ends)
 corner-ends net w i j l true two = omega (arith, l .ends)
 corner-ends net w i j l true three = l .ends
 
--- a triangle in range has its nine control values in range
+-- a triangle in range has each corner in range
+abbrev others : List ℤ → ℕ → Triangle → Bool
+others net w t = anyBeyond (vertexNumbers net w (corner t two)) || anyBeyond (vertexNumbers net w (corner t three))
+
+corners-fine : (net : List ℤ) (w : ℕ) (t : Triangle) → triangleBeyond net w t ≡ false → (P : Index) → anyBeyond (vertexNumbers net w (corner t P)) ≡ false
+corners-fine net w t e P = at P
+  where
+    at : (P : Index) → anyBeyond (vertexNumbers net w (corner t P)) ≡ false
+    at one = or-none (anyBeyond (vertexNumbers net w (corner t one))) (others net w t) e .0
+    at two = or-none (anyBeyond (vertexNumbers net w (corner t two))) (anyBeyond (vertexNumbers net w (corner t three))) (or-none (anyBeyond (vertexNumbers net w (corner t one))) (others net w t) e .1) .0
+    at three = or-none (anyBeyond (vertexNumbers net w (corner t two))) (anyBeyond (vertexNumbers net w (corner t three))) (or-none (anyBeyond (vertexNumbers net w (corner t one))) (others net w t) e .1) .1
+
+-- and so its nine control values, each of them and as a list
+pub value-size : (net : List ℤ) (w i j : ℕ) (down : Bool) → InNet net w i j → triangleBeyond net w (triangleAt i j down) ≡ false →
+    (x : ℕ) → x < 3 → (P k : Index) → natAbs (controlsOf (field net w x) (triangleAt i j down) P k) ≤ 16777216
+value-size net w i j down l e x h P k =
+    let t = triangleAt i j down in
+    field-size net w (corner t P) (corners-fine net w t e P) (corner-ends net w i j l down P) k x h
+
 pub values-within : (net : List ℤ) (w i j : ℕ) (down : Bool) → InNet net w i j → triangleBeyond net w (triangleAt i j down) ≡ false →
     (x : ℕ) → x < 3 → Within 16777216 (controlList (controlsOf (field net w x) (triangleAt i j down)))
 values-within net w i j down l e x h =
-    let t = triangleAt i j down in
-    let e₁ = or-none _ _ e in
-    let e₂ = or-none _ _ (e₁ .1) in
-    let size : (P : Index) → anyBeyond (vertexNumbers net w (corner t P)) ≡ false → (k : Index) → natAbs (controlsOf (field net w x) t P k) ≤ 16777216 =
-    λ P b k. field-size net w (corner t P) b (corner-ends net w i j l down P) k x h in
-    let a = size one (e₁ .0) in
-    let b = size two (e₂ .0) in
-    let c = size three (e₂ .1) in
-    (a one, (a two, (a three, (b one, (b two, (b three, (c one, (c two, (c three, tt)))))))))
+    let v = value-size net w i j down l e x h in
+    (v one one, (v one two, (v one three, (v two one, (v two two, (v two three, (v three one, (v three two, (v three three, tt)))))))))
 
 -- the nine values in a coordinate, from the loaded control triangles
 pub loaded-values : (net : List ℤ) (w : ℕ) (t : Triangle) {c : List (List (List ℤ))} → c ≡ cornerControls net w t →

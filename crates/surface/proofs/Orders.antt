@@ -1,14 +1,14 @@
 -- The order of three shares: which order it is by comparisons, and that it is document 01's: from the largest to the smallest, equals in corner order.
-use mathlib.Core.Path.{_≡_, refl, ap}
+use mathlib.Core.Path.{_≡_, refl, ap, subst}
 use mathlib.Core.Bool.{Bool, true, false}
 use Prim.Native.Nat.{ℕ, _≤_, _<_}
 use native.Mathlib.Omega.{arith}
-use lib.Dec.{leb}
+use lib.Dec.{leb, lit<}
 use borrow.Author.Tests.{le-leb, lt-leb, leb-true, leb-false}
 use Rattle.net.specs.Net.{Index, one, two, three, rank}
 use Rattle.net.proofs.Faults.{cond-first, cond-true, cond-false}
 use Rattle.surface.specs.SurfacePoint.{Order, o123, o132, o213, o231, o312, o321, cornerP, cornerQ, cornerT, orderOf, gapA, gapB, gapG}
-use Rattle.surface.specs.Evaluation.{rowsOf, InOrder}
+use Rattle.surface.specs.Evaluation.{aheadOf, InOrder}
 
 module _ (a : Index → ℕ) where
   -- the comparisons of `orderOf`, by corner
@@ -37,6 +37,57 @@ module _ (a : Index → ℕ) where
   is-321 p q r = cond-false _ _ _ (below p) (cond-false _ _ _ (below q) (cond-false _ _ _ (below r) refl))
 
   -- what the code makes of an order that it found
-  pub ordered : (o : Order) → o ≡ orderOf a → InOrder (orderOf a) a (rowsOf o) (gapA o a) (gapB o a) (gapG o a)
+  pub ordered : (o : Order) → o ≡ orderOf a →
+      InOrder (orderOf a) a (rank (cornerP o)) (rank (cornerQ o)) (rank (cornerT o)) (aheadOf o) (gapA o a) (gapB o a) (gapG o a)
   ordered o e =
-      record { rows-of = ap rowsOf e; first = ap (λ (k : Order). gapA k a) e; second = ap (λ (k : Order). gapB k a) e; last = ap (λ (k : Order). gapG k a) e }
+      record {
+        first-corner = ap (λ (k : Order). rank (cornerP k)) e;
+        second-corner = ap (λ (k : Order). rank (cornerQ k)) e;
+        last-corner = ap (λ (k : Order). rank (cornerT k)) e;
+        direction = ap aheadOf e;
+        first = ap (λ (k : Order). gapA k a) e;
+        second = ap (λ (k : Order). gapB k a) e;
+        last = ap (λ (k : Order). gapG k a) e;
+      }
+
+  -- 'a ≥ b ≥ d, equals in corner order'
+  unfoldable pub Sorted : Order → Type 0
+  Sorted o =
+      (a (cornerQ o) ≤ a (cornerP o))
+      × (a (cornerT o) ≤ a (cornerQ o))
+      × (a (cornerP o) ≡ a (cornerQ o) → rank (cornerP o) < rank (cornerQ o))
+      × (a (cornerQ o) ≡ a (cornerT o) → rank (cornerQ o) < rank (cornerT o))
+
+  pub in-order : Sorted (orderOf a)
+  unfolding Sorted
+  in-order = go (leb (a two) (a one)) refl (leb (a three) (a two)) refl (leb (a three) (a one)) refl
+    where
+      go : (x : Bool) → leb (a two) (a one) ≡ x → (y : Bool) → leb (a three) (a two) ≡ y → (z : Bool) → leb (a three) (a one) ≡ z → Sorted (orderOf a)
+      go true p true q z r =
+          let p′ = leb-true (a two) (a one) p in
+          let q′ = leb-true (a three) (a two) q in
+          subst Sorted (is-123 p′ q′) (p′, q′, (λ e. lit< tt), (λ e. lit< tt))
+      go true p false q true r =
+          let p′ = leb-true (a two) (a one) p in
+          let q′ = leb-false (a three) (a two) q in
+          let r′ = leb-true (a three) (a one) r in
+          subst Sorted (is-132 p′ q′ r′) (r′, omega (arith, q′), (λ e. lit< tt), (λ e. absurd (omega (arith, e, q′))))
+      go true p false q false r =
+          let p′ = leb-true (a two) (a one) p in
+          let q′ = leb-false (a three) (a two) q in
+          let r′ = leb-false (a three) (a one) r in
+          subst Sorted (is-312 p′ q′ r′) (omega (arith, r′), p′, (λ e. absurd (omega (arith, e, r′))), (λ e. lit< tt))
+      go false p y q true r =
+          let p′ = leb-false (a two) (a one) p in
+          let r′ = leb-true (a three) (a one) r in
+          subst Sorted (is-213 p′ r′) (omega (arith, p′), r′, (λ e. absurd (omega (arith, e, p′))), (λ e. lit< tt))
+      go false p true q false r =
+          let p′ = leb-false (a two) (a one) p in
+          let q′ = leb-true (a three) (a two) q in
+          let r′ = leb-false (a three) (a one) r in
+          subst Sorted (is-231 p′ r′ q′) (q′, omega (arith, r′), (λ e. lit< tt), (λ e. absurd (omega (arith, e, r′))))
+      go false p false q false r =
+          let p′ = leb-false (a two) (a one) p in
+          let q′ = leb-false (a three) (a two) q in
+          let r′ = leb-false (a three) (a one) r in
+          subst Sorted (is-321 p′ r′ q′) (omega (arith, q′), omega (arith, p′), (λ e. absurd (omega (arith, e, q′))), (λ e. absurd (omega (arith, e, p′))))

@@ -1,102 +1,27 @@
--- The evaluation gives document 01's point: six of the 19 points, weighted by A², 2AB, 2AG, B², 2BG, G², are the exact value, and the bounds
--- that keep it an i32.
+-- Surface points: from what the code found to the definition, what the evaluation asks, and the answers.
 use mathlib.Core.Path.{_≡_, refl, sym, ap, subst, _∙_}
 use mathlib.Core.Bool.{Bool, true, false, cond}
 use mathlib.Core.List.{List, [], _∷_, map}
-use Prim.Native.Nat.{ℕ, _*_, _≤_, _<_}
-use native.Mathlib.Nat.{le-refl, le-trans, mul-le-mul}
+use Prim.Native.Nat.{ℕ, _+_, _-_, _*_, _≤_, _<_}
 use native.Mathlib.Omega.{arith}
-use lib.Dec.{lit<, lit≤}
-use lib.IntN.{ℤ, pos, natAbs, _+ℤ_, _*ℤ_, +ℤ-comm}
-use lib.ListN.{length, getD}
-use borrow.Author.Tests.{eq-eqb, ne-eqb}
+use lib.Dec.{ltb, lit<}
+use lib.IntN.{ℤ, pos, natAbs}
+use lib.ListN.{getD}
+use borrow.Author.Tests.{eq-eqb, ne-eqb, ltb-true, ltb-false}
 use Rattle.exact.specs.Rounding.{rounded}
 use Rattle.exact.specs.WeightedSum.{weightedSum, Within}
-use Rattle.exact.proofs.Expressions.{Expr, var, lit, _⊕_, _⊗_, identity}
-use Rattle.exact.proofs.WeightedSumLaws.{sum-size}
-use Rattle.exact.proofs.RoundingLaws.{rounded-size}
-use Rattle.net.specs.Net.{Index, one, two, three, Triangle, field}
-use Rattle.surface.specs.BezierNet.{Controls, controlsOf, controlList, controlsIn, sixU, threeV, bezierPoints, pointS, pointU, pointV, pointR, pointM, pointZ}
-use Rattle.surface.specs.SurfacePoint.{Order, o123, o132, o213, o231, o312, o321, cornerP, cornerQ, cornerT, orderOf, chosen, share, gapA, gapB, gapG, quadratic, valueIn, spline, coordinate, surfacePoint, isDown, rest, upShare, downShare}
+use Rattle.net.specs.Net.{Index, one, two, three, rank, entry, field}
 use Rattle.net.specs.TurnedAway.{Fault, badSize, shortNet, accepted}
 use Rattle.net.proofs.Faults.{cond-first, cond-false, fault-none, fault-before}
+use Rattle.surface.specs.BezierNet.{controlsOf}
+use Rattle.surface.specs.SurfacePoint.{Order, o123, o132, o213, o231, o312, o321, cornerP, cornerQ, cornerT, orderOf, chosen, share, gapA, gapB, gapG, spline, coordinate, surfacePoint, isDown, rest, upShare, downShare}
 use Rattle.surface.specs.TurnedAway.{noPlace, triangleBeyond, pointRefusal}
 use Rattle.surface.specs.Answers.{pointAnswer, viewAnswer, viewPoint, millimetres}
-use Rattle.surface.specs.Evaluation.{placeRefusal, AllRows, pointFrom, rowsOf, coefficients, evaluated, cornerControls, valuesIn, shares, InOrder, Evaluable}
-use Rattle.surface.proofs.Weights.{point-sum, point-size}
-use Rattle.surface.proofs.Corners.{same-points, values-within}
+use Rattle.surface.specs.Evaluation.{placeRefusal, parts, evaluated, cornerControls, valuesIn, turned, arranged, shares, InOrder, Evaluable}
+use Rattle.surface.proofs.Corners.{value-size}
 use Rattle.surface.proofs.Cells.{in-cells, in-net-place}
-
--- ---- sizes
-
-pub points-within : (down : Bool) (values : List ℤ) (rows : List ℕ) → length values ≡ 9 → Within 16777216 values → AllRows rows →
-    Within 603979776 (map (pointFrom down values) rows)
-points-within down values [] e h k = tt
-points-within down values (n ∷ rows) e h k = (
-  subst (λ (z : ℤ). natAbs z ≤ 603979776) (point-sum down values n (k .0) e) (point-size down values n (k .0) h),
-  points-within down values rows e h (k .1),
-)
-
-pub mean-size : (weights points : List ℤ) → length weights ≡ 6 → Within 12582912 weights → Within 603979776 points →
-    natAbs (rounded (weightedSum weights points) 37748736) ≤ 1207959552
-mean-size weights points e h k =
-    rounded-size (weightedSum weights points) 37748736 1207959552 (lit< tt)
-    (omega (arith, sum-size 12582912 603979776 weights points h k, e))
-
-pub coefficients-within : (A B G : ℕ) → A ≤ 1024 → B ≤ 2048 → G ≤ 3072 → Within 12582912 (coefficients A B G)
-coefficients-within A B G a b g = (
-  le-trans (mul-le-mul a a) (lit≤ tt),
-  (double a b (lit≤ tt), (double a g (lit≤ tt), (le-trans (mul-le-mul b b) (lit≤ tt), (double b g (lit≤ tt), (le-trans (mul-le-mul g g) (lit≤ tt), tt))))),
-)
-  where
-    double : {x y m n : ℕ} → x ≤ m → y ≤ n → 2 * (m * n) ≤ 12582912 → 2 * (x * y) ≤ 12582912
-    double a b h = le-trans (mul-le-mul (le-refl 2) (mul-le-mul a b)) h
-
--- ---- the six points of an order
-
--- an edge has the same r and m from both ends
-r-sym : (down : Bool) (c : Controls) (P Q : Index) → pointR down c P Q ≡ pointR down c Q P
-r-sym down c P Q = ap (λ (z : ℤ). pos 3 *ℤ z) (+ℤ-comm (sixU down c P Q) (sixU down c Q P))
-
-m-sym : (down : Bool) (c : Controls) (P Q : Index) → pointM down c P Q ≡ pointM down c Q P
-m-sym down c P Q = ap (λ (z : ℤ). pos 6 *ℤ z) (+ℤ-comm (threeV down c P) (threeV down c Q))
-
-abbrev six : Bool → Controls → Index → Index → List ℤ
-six down c P Q = pointS c P ∷ pointU down c P Q ∷ pointV down c P ∷ pointR down c P Q ∷ pointM down c P Q ∷ pointZ down c ∷ []
-
-rows-are : (down : Bool) (c : Controls) (o : Order) →
-    map (λ (n : ℕ). getD (bezierPoints down c) n (pos 0)) (rowsOf o) ≡ six down c (cornerP o) (cornerQ o)
-unfolding bezierPoints
-rows-are down c o123 = refl
-rows-are down c o132 = refl
-rows-are down c o231 = refl
-rows-are down c o213 = λ t. pointS c two ∷ pointU down c two one ∷ pointV down c two ∷ r-sym down c one two t ∷ m-sym down c one two t ∷ pointZ down c ∷ []
-rows-are down c o312 = λ t. pointS c three ∷ pointU down c three one ∷ pointV down c three ∷ r-sym down c one three t ∷ m-sym down c one three t ∷ pointZ down c ∷ []
-rows-are down c o321 = λ t. pointS c three ∷ pointU down c three two ∷ pointV down c three ∷ r-sym down c two three t ∷ m-sym down c two three t ∷ pointZ down c ∷ []
-
--- their weighted sum is the exact value: six terms added from the right, as the weighted sum does, and from the left
-six-sum : (down : Bool) (c : Controls) (P Q : Index) (A B G : ℕ) → weightedSum (coefficients A B G) (six down c P Q) ≡ quadratic down c P Q A B G
-unfolding weightedSum
-six-sum down c P Q A B G =
-    identity
-    (var 0 ⊕ (var 1 ⊕ (var 2 ⊕ (var 3 ⊕ (var 4 ⊕ (var 5 ⊕ lit (pos 0)))))))
-    (var 0 ⊕ var 1 ⊕ var 2 ⊕ var 3 ⊕ var 4 ⊕ var 5)
-    ((pos (A * A) *ℤ pointS c P)
-    ∷ (pos (2 * (A * B)) *ℤ pointU down c P Q)
-    ∷ (pos (2 * (A * G)) *ℤ pointV down c P)
-    ∷ (pos (B * B) *ℤ pointR down c P Q)
-    ∷ (pos (2 * (B * G)) *ℤ pointM down c P Q)
-    ∷ (pos (G * G) *ℤ pointZ down c)
-    ∷ [])
-    refl
-
--- the point from the control values of a triangle, an order and its gaps
-pub evaluated-value : (down : Bool) (c : Controls) (o : Order) (A B G : ℕ) →
-    evaluated down (controlList c) (rowsOf o) A B G ≡ rounded (quadratic down c (cornerP o) (cornerQ o) A B G) 37748736
-evaluated-value down c o A B G =
-    ap (λ (l : List ℤ). rounded (weightedSum (coefficients A B G) (map (λ (n : ℕ). getD l n (pos 0)) (rowsOf o))) 37748736) (same-points down c)
-    ∙ ap (λ (l : List ℤ). rounded (weightedSum (coefficients A B G) l) 37748736) (rows-are down c o)
-    ∙ ap (λ (z : ℤ). rounded z 37748736) (six-sum down c (cornerP o) (cornerQ o) A B G)
+use Rattle.surface.proofs.Orders.{Sorted, in-order}
+use Rattle.surface.proofs.Evaluation.{cornerForm, form-values, form-within, parts-value}
 
 -- ---- from what the code found to the definition
 
@@ -109,22 +34,46 @@ shares-are s {a} {b} {d} e f g = λ t k. at k t
     at two = f
     at three = g
 
-pub in-order-of : (s : Index → ℕ) {a b d : ℕ} → a ≡ s one → b ≡ s two → d ≡ s three → {rows : List ℕ} {A B G : ℕ} →
-    InOrder (orderOf (shares a b d)) (shares a b d) rows A B G → InOrder (orderOf s) s rows A B G
-in-order-of s e f g {rows} {A} {B} {G} i = subst (λ (l : Index → ℕ). InOrder (orderOf l) l rows A B G) (shares-are s e f g) i
+pub in-order-of : (s : Index → ℕ) {a b d : ℕ} → a ≡ s one → b ≡ s two → d ≡ s three → {P Q T : ℕ} {ahead : Bool} {A B G : ℕ} →
+    InOrder (orderOf (shares a b d)) (shares a b d) P Q T ahead A B G → InOrder (orderOf s) s P Q T ahead A B G
+in-order-of s e f g {P} {Q} {T} {ahead} {A} {B} {G} i =
+    subst (λ (l : Index → ℕ). InOrder (orderOf l) l P Q T ahead A B G) (shares-are s e f g) i
+
+-- the control triangles that the code evaluates: turned, and arranged by the order of the shares
+pub prepared : (net : List ℤ) (w h p q : ℕ) {down : Bool} {c : List (List (List ℤ))} {P Q T : ℕ} {ahead : Bool} {A B G : ℕ} →
+    down ≡ chosen 1024 w h p q .down → c ≡ cornerControls net w (chosen 1024 w h p q) →
+    InOrder (orderOf (share 1024 w h p q)) (share 1024 w h p q) P Q T ahead A B G →
+    (x : ℕ) → valuesIn (arranged P Q T (turned down c)) x
+    ≡ cornerForm (chosen 1024 w h p q .down) (controlsOf (field net w x) (chosen 1024 w h p q)) (orderOf (share 1024 w h p q))
+prepared net w h p q ek ec i x =
+    let t = chosen 1024 w h p q in
+    (λ k. valuesIn (arranged (i .first-corner k) (i .second-corner k) (i .last-corner k) (turned (ek k) (ec k))) x)
+    ∙ form-values (t .down) (orderOf (share 1024 w h p q)) (cornerControls net w t) x
+    ∙ same (t .down) (orderOf (share 1024 w h p q))
+  where
+    at : (P k : Index) → entry (getD (cornerControls net w (chosen 1024 w h p q)) (rank P) []) k x ≡ controlsOf (field net w x) (chosen 1024 w h p q) P k
+    at one k = refl
+    at two k = refl
+    at three k = refl
+
+    same : (down : Bool) (o : Order) →
+        cornerForm down (λ P k. entry (getD (cornerControls net w (chosen 1024 w h p q)) (rank P) []) k x) o
+        ≡ cornerForm down (controlsOf (field net w x) (chosen 1024 w h p q)) o
+    same down o = λ t. cornerForm down (λ P k. at P k t) o
 
 -- the evaluated point is the surface point
-pub evaluated-coordinate : (net : List ℤ) (w h p q x : ℕ) {down : Bool} {c : List (List (List ℤ))} {rows : List ℕ} {A B G : ℕ} →
+pub evaluated-coordinate : (net : List ℤ) (w h p q x : ℕ) {down : Bool} {c : List (List (List ℤ))} {P Q T : ℕ} {ahead : Bool} {A B G : ℕ} →
     down ≡ chosen 1024 w h p q .down → c ≡ cornerControls net w (chosen 1024 w h p q) →
-    InOrder (orderOf (share 1024 w h p q)) (share 1024 w h p q) rows A B G →
-    evaluated down (valuesIn c x) rows A B G ≡ coordinate net w h p q x
+    InOrder (orderOf (share 1024 w h p q)) (share 1024 w h p q) P Q T ahead A B G →
+    evaluated ahead A B G (arranged P Q T (turned down c)) x ≡ coordinate net w h p q x
 unfolding coordinate spline
 evaluated-coordinate net w h p q x ek ec i =
     let t = chosen 1024 w h p q in
     let s = share 1024 w h p q in
     let o = orderOf s in
-    (λ k. evaluated (ek k) (valuesIn (ec k) x) (i .rows-of k) (i .first k) (i .second k) (i .last k))
-    ∙ evaluated-value (t .down) (controlsOf (field net w x) t) o (gapA o s) (gapB o s) (gapG o s)
+    let values = prepared net w h p q ek ec i x in
+    (λ k. rounded (weightedSum (parts (i .direction k) (i .first k) (i .second k) (i .last k)) (values k)) 37748736)
+    ∙ ap (λ (z : ℤ). rounded z 37748736) (parts-value (t .down) (controlsOf (field net w x) t) o (gapA o s) (gapB o s) (gapG o s))
 
 -- ---- answers
 
@@ -179,7 +128,7 @@ range-refusal net w h p q g e =
 
 -- ---- what the evaluation asks
 
--- the shares of a place are at most 1,024
+-- the shares of a place are at most 1,024 each, and 1,024 together
 share-at : (b : Bool) (f g : ℕ) → f ≤ 1024 → g ≤ 1024 → (k : Index) → (cond b (downShare 1024 f g) (upShare 1024 f g)) k ≤ 1024
 share-at true f g a b one = omega arith
 share-at true f g a b two = omega arith
@@ -188,37 +137,64 @@ share-at false f g a b one = omega arith
 share-at false f g a b two = a
 share-at false f g a b three = b
 
+shares-at : (b : Bool) (f g : ℕ) → f ≤ 1024 → g ≤ 1024 → ltb 1024 (f + g) ≡ b →
+    (let s = cond b (downShare 1024 f g) (upShare 1024 f g) in s one + s two + s three ≡ 1024)
+shares-at true f g a b e = omega (arith, a, b, ltb-true 1024 (f + g) e)
+shares-at false f g a b e = omega (arith, ltb-false 1024 (f + g) e)
+
 pub share-small : (w h p q : ℕ) → badSize w h ≡ false → noPlace w h p q ≡ false → (k : Index) → share 1024 w h p q k ≤ 1024
 share-small w h p q e f k =
     let i = in-cells w h p q e f in
     share-at (isDown 1024 (rest 1024 w p) (rest 1024 h q)) (rest 1024 w p) (rest 1024 h q) (i .0 .left) (i .1 .left) k
 
--- the rows of an order are among the 19
-all-rows : (o : Order) → AllRows (rowsOf o)
-all-rows o123 = (lit< tt, (lit< tt, (lit< tt, (lit< tt, (lit< tt, (lit< tt, tt))))))
-all-rows o132 = (lit< tt, (lit< tt, (lit< tt, (lit< tt, (lit< tt, (lit< tt, tt))))))
-all-rows o213 = (lit< tt, (lit< tt, (lit< tt, (lit< tt, (lit< tt, (lit< tt, tt))))))
-all-rows o231 = (lit< tt, (lit< tt, (lit< tt, (lit< tt, (lit< tt, (lit< tt, tt))))))
-all-rows o312 = (lit< tt, (lit< tt, (lit< tt, (lit< tt, (lit< tt, (lit< tt, tt))))))
-all-rows o321 = (lit< tt, (lit< tt, (lit< tt, (lit< tt, (lit< tt, (lit< tt, tt))))))
+pub shares-sum : (w h p q : ℕ) → badSize w h ≡ false → noPlace w h p q ≡ false →
+    share 1024 w h p q one + share 1024 w h p q two + share 1024 w h p q three ≡ 1024
+shares-sum w h p q e f =
+    let i = in-cells w h p q e f in
+    shares-at (isDown 1024 (rest 1024 w p) (rest 1024 h q)) (rest 1024 w p) (rest 1024 h q) (i .0 .left) (i .1 .left) refl
+
+-- A, B and G add up to the shares
+in-any-order : (a : Index → ℕ) (o : Order) → a (cornerP o) + a (cornerQ o) + a (cornerT o) ≡ a one + a two + a three
+in-any-order a o123 = omega arith
+in-any-order a o132 = omega arith
+in-any-order a o213 = omega arith
+in-any-order a o231 = omega arith
+in-any-order a o312 = omega arith
+in-any-order a o321 = omega arith
+
+gaps-sum : (a : Index → ℕ) → (let o = orderOf a in gapA o a + gapB o a + gapG o a ≡ a one + a two + a three)
+unfolding Sorted
+gaps-sum a =
+    let o = orderOf a in
+    let sorted = in-order a in
+    added (a (cornerP o)) (a (cornerQ o)) (a (cornerT o)) (sorted .0) (sorted .1) ∙ in-any-order a o
+  where
+    added : (x y z : ℕ) → y ≤ x → z ≤ y → (x - y) + 2 * (y - z) + 3 * z ≡ x + y + z
+    added x y z a b = omega (arith, a, b)
+
+-- where P, Q and T stand among the corners
+pub below-three : (k : Index) {n : ℕ} → n ≡ rank k → n < 3
+below-three k e = subst (λ (n : ℕ). n < 3) (sym e) (at k)
+  where
+    at : (k : Index) → rank k < 3
+    at one = lit< tt
+    at two = lit< tt
+    at three = lit< tt
 
 pub evaluable : (net : List ℤ) (w h p q : ℕ) → GoodPlace net w h p q → triangleBeyond net w (chosen 1024 w h p q) ≡ false →
-    {c : List (List (List ℤ))} {rows : List ℕ} {A B G : ℕ} → c ≡ cornerControls net w (chosen 1024 w h p q) →
-    InOrder (orderOf (share 1024 w h p q)) (share 1024 w h p q) rows A B G → Evaluable rows A B G c
-evaluable net w h p q g b ec i =
+    {down : Bool} {c : List (List (List ℤ))} {P Q T : ℕ} {ahead : Bool} {A B G : ℕ} →
+    down ≡ chosen 1024 w h p q .down → c ≡ cornerControls net w (chosen 1024 w h p q) →
+    InOrder (orderOf (share 1024 w h p q)) (share 1024 w h p q) P Q T ahead A B G → Evaluable A B G (arranged P Q T (turned down c))
+evaluable net w h p q g b {down} {c} {P} {Q} {T} ek ec i =
     let t = chosen 1024 w h p q in
     let s = share 1024 w h p q in
-    let o = orderOf s in
-    let small = share-small w h p q (g .size) (g .place) in
     let lies = in-net-place net w h p q (g .size) (g .place) (g .long) in
-    let within : (x : ℕ) → x < 3 → Within 16777216 (valuesIn (cornerControls net w t) x) =
-    values-within net w (t .column) (t .row) (t .down) lies b in
+    let within : (x : ℕ) → x < 3 → Within 16777216 (valuesIn (arranged P Q T (turned down c)) x) =
+    λ x k. subst (Within 16777216) (sym (prepared net w h p q ek ec i x))
+    (form-within 16777216 (t .down) (controlsOf (field net w x) t) (orderOf s) (value-size net w (t .column) (t .row) (t .down) lies b x k)) in
     record {
-      all-rows = subst AllRows (sym (i .rows-of)) (all-rows o);
-      first-small = omega (arith, i .first, small (cornerP o));
-      second-small = omega (arith, i .second, small (cornerQ o));
-      last-small = omega (arith, i .last, small (cornerT o));
-      within-0 = subst (λ (c : List (List (List ℤ))). Within 16777216 (valuesIn c 0)) (sym ec) (within 0 (lit< tt));
-      within-1 = subst (λ (c : List (List (List ℤ))). Within 16777216 (valuesIn c 1)) (sym ec) (within 1 (lit< tt));
-      within-2 = subst (λ (c : List (List (List ℤ))). Within 16777216 (valuesIn c 2)) (sym ec) (within 2 (lit< tt));
+      gaps = omega (arith, i .first, i .second, i .last, gaps-sum s, shares-sum w h p q (g .size) (g .place));
+      within-0 = within 0 (lit< tt);
+      within-1 = within 1 (lit< tt);
+      within-2 = within 2 (lit< tt);
     }

@@ -17,44 +17,49 @@ use Rattle.exact.proofs.WeightedSumLaws.{NotNegative, sum-within, weights-withi
 use Rattle.net.specs.Net.{Index, one, two, three, rank}
 use Rattle.surface.specs.BezierNet.{Controls, controlsIn, indexK, indexM, indexN, isNext, bezierPoints}
 
--- ---- the 19 points as expressions of the nine values
+-- ---- the points as expressions, of whatever stands for the controls
 
+module _ (c : Index → Index → Expr) where
+  abbrev pub s : Index → Expr
+  s P = lit (pos 12) ⊗ (c P one ⊕ c P two ⊕ c P three)
+
+  abbrev sixth : Bool → Index → Index → Expr
+  sixth down P Q =
+      cond (isNext P Q)
+      (lit (pos 4) ⊗ c P (indexK down P) ⊕ c P (indexM down P) ⊕ c P (indexN down P))
+      (lit (pos 3) ⊗ (c P (indexK down P) ⊕ c P (indexN down P)))
+
+  abbrev third : Bool → Index → Expr
+  third down P = lit (pos 2) ⊗ c P (indexK down P) ⊕ c P (indexN down P)
+
+  abbrev pub u : Bool → Index → Index → Expr
+  u down P Q = lit (pos 6) ⊗ sixth down P Q
+
+  abbrev pub v : Bool → Index → Expr
+  v down P = lit (pos 12) ⊗ third down P
+
+  abbrev pub r : Bool → Index → Index → Expr
+  r down P Q = lit (pos 3) ⊗ (sixth down P Q ⊕ sixth down Q P)
+
+  abbrev pub m : Bool → Index → Index → Expr
+  m down P Q = lit (pos 6) ⊗ (third down P ⊕ third down Q)
+
+  abbrev pub z : Bool → Expr
+  z down = lit (pos 4) ⊗ (third down one ⊕ third down two ⊕ third down three)
+
+-- the 19 points, of the nine values in a list, by corner and then c1 to c3
 abbrev c : Index → Index → Expr
 c P k = var (3 * rank P + rank k)
 
-abbrev s : Index → Expr
-s P = lit (pos 12) ⊗ (c P one ⊕ c P two ⊕ c P three)
-
-abbrev u : Bool → Index → Index → Expr
-u down P Q =
-    cond (isNext P Q)
-    (lit (pos 4) ⊗ c P (indexK down P) ⊕ c P (indexM down P) ⊕ c P (indexN down P))
-    (lit (pos 3) ⊗ (c P (indexK down P) ⊕ c P (indexN down P)))
-
-abbrev v : Bool → Index → Expr
-v down P = lit (pos 2) ⊗ c P (indexK down P) ⊕ c P (indexN down P)
-
-abbrev r : Bool → Index → Index → Expr
-r down P Q = lit (pos 3) ⊗ (u down P Q ⊕ u down Q P)
-
-abbrev m : Bool → Index → Index → Expr
-m down P Q = lit (pos 6) ⊗ (v down P ⊕ v down Q)
-
-abbrev six : Expr → Expr
-six e = lit (pos 6) ⊗ e
-
-abbrev twelve : Expr → Expr
-twelve e = lit (pos 12) ⊗ e
-
 abbrev points : Bool → List Expr
 points down =
-    s one ∷ s two ∷ s three
-    ∷ six (u down one two) ∷ six (u down one three) ∷ six (u down two one)
-    ∷ six (u down two three) ∷ six (u down three one) ∷ six (u down three two)
-    ∷ twelve (v down one) ∷ twelve (v down two) ∷ twelve (v down three)
-    ∷ r down one two ∷ r down one three ∷ r down two three
-    ∷ m down one two ∷ m down one three ∷ m down two three
-    ∷ (lit (pos 4) ⊗ (v down one ⊕ v down two ⊕ v down three)) ∷ []
+    s c one ∷ s c two ∷ s c three
+    ∷ u c down one two ∷ u c down one three ∷ u c down two one
+    ∷ u c down two three ∷ u c down three one ∷ u c down three two
+    ∷ v c down one ∷ v c down two ∷ v c down three
+    ∷ r c down one two ∷ r c down one three ∷ r c down two three
+    ∷ m c down one two ∷ m c down one three ∷ m c down two three
+    ∷ z c down ∷ []
 
 points-value : (down : Bool) (values : List ℤ) → map (value values) (points down) ≡ bezierPoints down (controlsIn values)
 unfolding bezierPoints

@@ -1,6 +1,6 @@
 -- What the inner functions of the evaluation hand on to each other. No public contract cites these.
 use mathlib.Core.Path.{_≡_}
-use mathlib.Core.Bool.{Bool}
+use mathlib.Core.Bool.{Bool, true, false}
 use mathlib.Core.List.{List, [], _∷_, map}
 use Prim.Native.Nat.{ℕ, _+_, _*_, _≤_, _<_}
 use lib.ListN.{length, getD}
@@ -10,8 +10,8 @@ use Rattle.exact.specs.WeightedSum.{weightedSum, Within}
 use Rattle.net.specs.Net.{Index, one, two, three, vertexAt, start, Triangle, corner, controlTriangle, rank, entry}
 use Rattle.net.specs.TurnedAway.{firstFault, badSize, shortNet}
 use Rattle.surface.specs.TurnedAway.{noPlace}
-use Rattle.surface.specs.BezierNet.{controlList, controlsIn, bezierPoints}
-use Rattle.surface.specs.SurfacePoint.{Order, o123, o132, o213, o231, o312, o321, cell, rest, isDown, share, gapA, gapB, gapG}
+use Rattle.surface.specs.BezierNet.{controlList, controlsIn, isNext, indexK, indexM, indexN, bezierPoints}
+use Rattle.surface.specs.SurfacePoint.{Order, cornerP, cornerQ, cornerT, cell, rest, isDown, share, gapA, gapB, gapG}
 
 -- the corners of both triangles of cell (i, j) lie in the net, and their rows and columns are small numbers
 pub record InNet (net : List ℤ) (w i j : ℕ) : Type 0 where
@@ -55,42 +55,73 @@ shares a b d one = a
 shares a b d two = b
 shares a b d three = d
 
--- where sP, u, vP, r, m, z stand among the 19 points
-abbrev pub rowsOf : Order → List ℕ
-rowsOf o123 = 0 ∷ 3 ∷ 9 ∷ 12 ∷ 15 ∷ 18 ∷ []
-rowsOf o132 = 0 ∷ 4 ∷ 9 ∷ 13 ∷ 16 ∷ 18 ∷ []
-rowsOf o213 = 1 ∷ 5 ∷ 10 ∷ 12 ∷ 15 ∷ 18 ∷ []
-rowsOf o231 = 1 ∷ 6 ∷ 10 ∷ 14 ∷ 17 ∷ 18 ∷ []
-rowsOf o312 = 2 ∷ 7 ∷ 11 ∷ 13 ∷ 16 ∷ 18 ∷ []
-rowsOf o321 = 2 ∷ 8 ∷ 11 ∷ 14 ∷ 17 ∷ 18 ∷ []
+-- whether Q is the next corner after P
+abbrev pub aheadOf : Order → Bool
+aheadOf o = isNext (cornerP o) (cornerQ o)
 
--- what puts the shares in order o: the rows, and A, B, G
-pub record InOrder (o : Order) (a : Index → ℕ) (rows : List ℕ) (A B G : ℕ) : Type 0 where
-  pub rows-of : rows ≡ rowsOf o
+-- what puts the shares in order o: where P, Q and T stand among the corners, the direction from P to Q, and A, B, G
+pub record InOrder (o : Order) (a : Index → ℕ) (P Q T : ℕ) (ahead : Bool) (A B G : ℕ) : Type 0 where
+  pub first-corner : P ≡ rank (cornerP o)
+  pub second-corner : Q ≡ rank (cornerQ o)
+  pub last-corner : T ≡ rank (cornerT o)
+  pub direction : ahead ≡ aheadOf o
   pub first : A ≡ gapA o a
   pub second : B ≡ gapB o a
   pub last : G ≡ gapG o a
 
--- each row is one of the 19
-abbrev pub AllRows : List ℕ → Type 0
-AllRows [] = Unit {0}
-AllRows (n ∷ ns) = (n < 19) × AllRows ns
+-- the control points of a corner in the order ck, cn, cm, and so for each corner of a triangle
+abbrev pub turnedCorner : Bool → Index → List (List ℤ) → List (List ℤ)
+turnedCorner down P c =
+    getD c (rank (indexK down P)) [] ∷ getD c (rank (indexN down P)) [] ∷ getD c (rank (indexM down P)) [] ∷ []
+
+abbrev pub turned : Bool → List (List (List ℤ)) → List (List (List ℤ))
+turned down c =
+    turnedCorner down one (getD c 0 []) ∷ turnedCorner down two (getD c 1 []) ∷ turnedCorner down three (getD c 2 []) ∷ []
+
+-- the corners in another order
+abbrev pub arranged : ℕ → ℕ → ℕ → List (List (List ℤ)) → List (List (List ℤ))
+arranged P Q T c = getD c P [] ∷ getD c Q [] ∷ getD c T [] ∷ []
 
 -- A², 2AB, 2AG, B², 2BG, G²
 abbrev pub coefficients : ℕ → ℕ → ℕ → List ℤ
 coefficients A B G =
     pos (A * A) ∷ pos (2 * (A * B)) ∷ pos (2 * (A * G)) ∷ pos (B * B) ∷ pos (2 * (B * G)) ∷ pos (G * G) ∷ []
 
--- the value of six points of the 19 in one coordinate, rounded once
-abbrev pub evaluated : Bool → List ℤ → List ℕ → ℕ → ℕ → ℕ → ℤ
-evaluated down values rows A B G = rounded (weightedSum (coefficients A B G) (map (pointFrom down values) rows)) 37748736
+-- 36 times the share of each control point in sP, u, vP, r, m, z: ck, cn, cm of P, then of Q, then of T. In the first table Q is the next
+-- corner after P, in the second the previous one.
+abbrev pub partRows : Bool → List (List ℤ)
+partRows true =
+    (pos 12 ∷ pos 24 ∷ pos 24 ∷ pos 12 ∷ pos 12 ∷ pos 8 ∷ [])
+    ∷ (pos 12 ∷ pos 6 ∷ pos 12 ∷ pos 3 ∷ pos 6 ∷ pos 4 ∷ [])
+    ∷ (pos 12 ∷ pos 6 ∷ pos 0 ∷ pos 3 ∷ pos 0 ∷ pos 0 ∷ [])
+    ∷ (pos 0 ∷ pos 0 ∷ pos 0 ∷ pos 9 ∷ pos 12 ∷ pos 8 ∷ [])
+    ∷ (pos 0 ∷ pos 0 ∷ pos 0 ∷ pos 9 ∷ pos 6 ∷ pos 4 ∷ [])
+    ∷ (pos 0 ∷ pos 0 ∷ pos 0 ∷ pos 0 ∷ pos 0 ∷ pos 0 ∷ [])
+    ∷ (pos 0 ∷ pos 0 ∷ pos 0 ∷ pos 0 ∷ pos 0 ∷ pos 8 ∷ [])
+    ∷ (pos 0 ∷ pos 0 ∷ pos 0 ∷ pos 0 ∷ pos 0 ∷ pos 4 ∷ [])
+    ∷ (pos 0 ∷ pos 0 ∷ pos 0 ∷ pos 0 ∷ pos 0 ∷ pos 0 ∷ []) ∷ []
+partRows false =
+    (pos 12 ∷ pos 18 ∷ pos 24 ∷ pos 9 ∷ pos 12 ∷ pos 8 ∷ [])
+    ∷ (pos 12 ∷ pos 18 ∷ pos 12 ∷ pos 9 ∷ pos 6 ∷ pos 4 ∷ [])
+    ∷ (pos 12 ∷ pos 0 ∷ pos 0 ∷ pos 0 ∷ pos 0 ∷ pos 0 ∷ [])
+    ∷ (pos 0 ∷ pos 0 ∷ pos 0 ∷ pos 12 ∷ pos 12 ∷ pos 8 ∷ [])
+    ∷ (pos 0 ∷ pos 0 ∷ pos 0 ∷ pos 3 ∷ pos 6 ∷ pos 4 ∷ [])
+    ∷ (pos 0 ∷ pos 0 ∷ pos 0 ∷ pos 3 ∷ pos 0 ∷ pos 0 ∷ [])
+    ∷ (pos 0 ∷ pos 0 ∷ pos 0 ∷ pos 0 ∷ pos 0 ∷ pos 8 ∷ [])
+    ∷ (pos 0 ∷ pos 0 ∷ pos 0 ∷ pos 0 ∷ pos 0 ∷ pos 4 ∷ [])
+    ∷ (pos 0 ∷ pos 0 ∷ pos 0 ∷ pos 0 ∷ pos 0 ∷ pos 0 ∷ []) ∷ []
 
--- what the evaluation asks of rows, gaps and control values
-pub record Evaluable (rows : List ℕ) (A B G : ℕ) (c : List (List (List ℤ))) : Type 0 where
-  pub all-rows : AllRows rows
-  pub first-small : A ≤ 1024
-  pub second-small : B ≤ 2048
-  pub last-small : G ≤ 3072
+-- 36·1024² times the factor of each of the nine control points in the exact point
+abbrev pub parts : Bool → ℕ → ℕ → ℕ → List ℤ
+parts ahead A B G = map (λ (row : List ℤ). weightedSum row (coefficients A B G)) (partRows ahead)
+
+-- the value in coordinate x of control triangles that are turned and arranged, rounded once
+abbrev pub evaluated : Bool → ℕ → ℕ → ℕ → List (List (List ℤ)) → ℕ → ℤ
+evaluated ahead A B G c x = rounded (weightedSum (parts ahead A B G) (valuesIn c x)) 37748736
+
+-- what the evaluation asks of gaps and control values
+pub record Evaluable (A B G : ℕ) (c : List (List (List ℤ))) : Type 0 where
+  pub gaps : A + B + G ≤ 1024
   pub within-0 : Within 16777216 (valuesIn c 0)
   pub within-1 : Within 16777216 (valuesIn c 1)
   pub within-2 : Within 16777216 (valuesIn c 2)

@@ -19,9 +19,12 @@ pub struct Located {
     pub d: usize,
 }
 
-// Where the evaluation finds sP, u, vP, r, m, z among the 19 points, and document 01's A, B and G.
+// Document 01's P, Q and T as places among the corners, whether Q is the next corner after P, and A, B and G.
 pub struct Ordered {
-    pub rows: [usize; 6],
+    pub p: usize,
+    pub q: usize,
+    pub t: usize,
+    pub ahead: bool,
     pub a: usize,
     pub b: usize,
     pub g: usize,
@@ -96,12 +99,15 @@ pub fn place_refusal(net: &[i32], w: usize, h: usize, p: usize, q: usize) -> u32
 // The shares of corners 1, 2, 3, put in order.
 pub fn put_in_order(a: usize, b: usize, d: usize) -> Ordered
     requires { ⌜ (a ≤ 1024) × (b ≤ 1024) × (d ≤ 1024) ⌝ }
-    ensures { λ r. ⌜ InOrder (orderOf (shares a b d)) (shares a b d) (r .rows) (r .a) (r .b) (r .g) ⌝ }
+    ensures { λ r. ⌜ InOrder (orderOf (shares a b d)) (shares a b d) (r .p) (r .q) (r .t) (r .ahead) (r .a) (r .b) (r .g) ⌝ }
 {
     if b <= a {
         if d <= b {
             return Ordered {
-                rows: [0, 3, 9, 12, 15, 18],
+                p: 0,
+                q: 1,
+                t: 2,
+                ahead: true,
                 a: a - b,
                 b: 2 * (b - d),
                 g: 3 * d,
@@ -109,14 +115,20 @@ pub fn put_in_order(a: usize, b: usize, d: usize) -> Ordered
         }
         if d <= a {
             return Ordered {
-                rows: [0, 4, 9, 13, 16, 18],
+                p: 0,
+                q: 2,
+                t: 1,
+                ahead: false,
                 a: a - d,
                 b: 2 * (d - b),
                 g: 3 * b,
             };
         }
         return Ordered {
-            rows: [2, 7, 11, 13, 16, 18],
+            p: 2,
+            q: 0,
+            t: 1,
+            ahead: true,
             a: d - a,
             b: 2 * (a - b),
             g: 3 * b,
@@ -124,7 +136,10 @@ pub fn put_in_order(a: usize, b: usize, d: usize) -> Ordered
     }
     if d <= a {
         return Ordered {
-            rows: [1, 5, 10, 12, 15, 18],
+            p: 1,
+            q: 0,
+            t: 2,
+            ahead: false,
             a: b - a,
             b: 2 * (a - d),
             g: 3 * d,
@@ -132,14 +147,20 @@ pub fn put_in_order(a: usize, b: usize, d: usize) -> Ordered
     }
     if d <= b {
         return Ordered {
-            rows: [1, 6, 10, 14, 17, 18],
+            p: 1,
+            q: 2,
+            t: 0,
+            ahead: true,
             a: b - d,
             b: 2 * (d - a),
             g: 3 * a,
         };
     }
     Ordered {
-        rows: [2, 8, 11, 14, 17, 18],
+        p: 2,
+        q: 1,
+        t: 0,
+        ahead: false,
         a: d - b,
         b: 2 * (b - a),
         g: 3 * a,

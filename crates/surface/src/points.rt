@@ -3,81 +3,103 @@ use crate::answers::Point;
 use crate::answers::PointAnswer;
 use crate::answers::ViewAnswer;
 use crate::answers::ViewPoint;
-use crate::bezier::ordinate;
-use crate::places::Ordered;
 use crate::places::locate;
 use crate::places::place_refusal;
 use crate::places::put_in_order;
+use crate::triangles::arrange;
 use crate::triangles::coordinate_values;
 use crate::triangles::load_triangle;
 use crate::triangles::triangle_beyond;
-use exact::weighted_mean6;
+use crate::triangles::turn;
+use exact::weighted_mean9;
+use exact::weighted_sum6;
 ghost use mathlib.Core.Path.{_≡_};
+ghost use mathlib.Core.Bool.{true, false};
 ghost use mathlib.Core.List.{map};
-ghost use Prim.Native.Nat.{_≤_};
+ghost use Prim.Native.Nat.{_+_, _≤_};
 ghost use Rattle.exact.specs.WeightedSum.{Within, weightedSum};
 ghost use Rattle.exact.specs.Rounding.{rounded};
-ghost use Rattle.surface.specs.Evaluation.{AllRows, pointFrom, coefficients, evaluated, valuesIn, Evaluable};
+ghost use Rattle.surface.specs.Evaluation.{coefficients, partRows, parts, evaluated, Evaluable};
 ghost use Rattle.surface.specs.Answers.{pointTold, viewTold, pointAnswer, viewAnswer, millimetres};
 
-// A², 2AB, 2AG, B², 2BG, G². The bounds are those of three shares that are at most 1,024.
-fn squares(a: usize, b: usize, g: usize) -> [i64; 6]
-    requires { ⌜ (a ≤ 1024) × (b ≤ 2048) × (g ≤ 3072) ⌝ }
+// A², 2AB, 2AG, B², 2BG, G².
+fn squares(a: usize, b: usize, g: usize) -> [i32; 6]
+    requires { ⌜ a + b + g ≤ 1024 ⌝ }
     ensures { λ r. ⌜ r ≡ coefficients a b g ⌝ }
 {
-    let aa = (a * a) as i64;
-    let ab = (2 * (a * b)) as i64;
-    let ag = (2 * (a * g)) as i64;
-    let bb = (b * b) as i64;
-    let bg = (2 * (b * g)) as i64;
-    let gg = (g * g) as i64;
+    let aa = (a * a) as i32;
+    let ab = (2 * (a * b)) as i32;
+    let ag = (2 * (a * g)) as i32;
+    let bb = (b * b) as i32;
+    let bg = (2 * (b * g)) as i32;
+    let gg = (g * g) as i32;
     [aa, ab, ag, bb, bg, gg]
 }
 
-// Six of the 19 points in one coordinate.
-fn six_points(down: bool, rows: [usize; 6], values: [i32; 9]) -> [i32; 6]
-    requires { ⌜ AllRows rows × Within 16777216 values ⌝ }
-    ensures { λ r. ⌜ r ≡ map (pointFrom down values) rows ⌝ }
+// 36·1024² times the factor of each control point in the point: ck, cn, cm of P, of Q and of T, where Q is the next corner after P.
+fn parts_ahead(k: [i32; 6]) -> [i64; 9]
+    ensures { λ r. ⌜ r ≡ map (λ row. weightedSum row k) (partRows true) ⌝ }
 {
-    let s = ordinate(down, rows[0], values);
-    let u = ordinate(down, rows[1], values);
-    let v = ordinate(down, rows[2], values);
-    let r = ordinate(down, rows[3], values);
-    let m = ordinate(down, rows[4], values);
-    let z = ordinate(down, rows[5], values);
-    [s, u, v, r, m, z]
+    let pk = weighted_sum6([12, 24, 24, 12, 12, 8], k);
+    let pn = weighted_sum6([12, 6, 12, 3, 6, 4], k);
+    let pm = weighted_sum6([12, 6, 0, 3, 0, 0], k);
+    let qk = weighted_sum6([0, 0, 0, 9, 12, 8], k);
+    let qn = weighted_sum6([0, 0, 0, 9, 6, 4], k);
+    let tk = weighted_sum6([0, 0, 0, 0, 0, 8], k);
+    let tn = weighted_sum6([0, 0, 0, 0, 0, 4], k);
+    [pk, pn, pm, qk, qn, 0, tk, tn, 0]
 }
 
-// The six points weighted, over 36·1024², rounded once. The bound on the weights keeps the result an i32.
-fn weighted_point(down: bool, rows: [usize; 6], weights: [i64; 6], values: [i32; 9]) -> i32
-    requires { ⌜ AllRows rows × Within 12582912 weights × Within 16777216 values ⌝ }
-    ensures { λ r. ⌜ r ≡ rounded (weightedSum weights (map (pointFrom down values) rows)) 37748736 ⌝ }
+// The same where Q is the previous corner.
+fn parts_behind(k: [i32; 6]) -> [i64; 9]
+    ensures { λ r. ⌜ r ≡ map (λ row. weightedSum row k) (partRows false) ⌝ }
 {
-    let points = six_points(down, rows, values);
-    weighted_mean6(weights, points, 37748736) as i32
+    let pk = weighted_sum6([12, 18, 24, 9, 12, 8], k);
+    let pn = weighted_sum6([12, 18, 12, 9, 6, 4], k);
+    let pm = weighted_sum6([12, 0, 0, 0, 0, 0], k);
+    let qk = weighted_sum6([0, 0, 0, 12, 12, 8], k);
+    let qn = weighted_sum6([0, 0, 0, 3, 6, 4], k);
+    let qm = weighted_sum6([0, 0, 0, 3, 0, 0], k);
+    let tk = weighted_sum6([0, 0, 0, 0, 0, 8], k);
+    let tn = weighted_sum6([0, 0, 0, 0, 0, 4], k);
+    [pk, pn, pm, qk, qn, qm, tk, tn, 0]
 }
 
-// The point in each coordinate.
-fn evaluate(
-    down: bool,
-    rows: [usize; 6],
-    a: usize,
-    b: usize,
-    g: usize,
-    c: [[[i32; 3]; 3]; 3],
-) -> Point
-    requires { ⌜ Evaluable rows a b g c ⌝ }
-    ensures { λ r. ⌜ r .x ≡ evaluated down (valuesIn c 0) rows a b g ⌝ }
-    ensures { λ r. ⌜ r .y ≡ evaluated down (valuesIn c 1) rows a b g ⌝ }
-    ensures { λ r. ⌜ r .z ≡ evaluated down (valuesIn c 2) rows a b g ⌝ }
+// The parts in either direction.
+fn parts_of(ahead: bool, a: usize, b: usize, g: usize) -> [i64; 9]
+    requires { ⌜ a + b + g ≤ 1024 ⌝ }
+    ensures { λ r. ⌜ r ≡ parts ahead a b g ⌝ }
 {
-    let weights = squares(a, b, g);
+    let k = squares(a, b, g);
+    if ahead {
+        parts_ahead(k)
+    } else {
+        parts_behind(k)
+    }
+}
+
+// Nine control values weighted, over 36·1024², rounded once. The bound on the weights keeps the result an i32.
+fn weighted_point(weights: [i64; 9], values: [i32; 9]) -> i32
+    requires { ⌜ Within 25165824 weights × Within 16777216 values ⌝ }
+    ensures { λ r. ⌜ r ≡ rounded (weightedSum weights values) 37748736 ⌝ }
+{
+    weighted_mean9(weights, values, 37748736) as i32
+}
+
+// The point in each coordinate, of control triangles that are turned and arranged.
+fn evaluate(ahead: bool, a: usize, b: usize, g: usize, c: [[[i32; 3]; 3]; 3]) -> Point
+    requires { ⌜ Evaluable a b g c ⌝ }
+    ensures { λ r. ⌜ r .x ≡ evaluated ahead a b g c 0 ⌝ }
+    ensures { λ r. ⌜ r .y ≡ evaluated ahead a b g c 1 ⌝ }
+    ensures { λ r. ⌜ r .z ≡ evaluated ahead a b g c 2 ⌝ }
+{
+    let weights = parts_of(ahead, a, b, g);
     let xs = coordinate_values(c, 0);
     let ys = coordinate_values(c, 1);
     let zs = coordinate_values(c, 2);
-    let x = weighted_point(down, rows, weights, xs);
-    let y = weighted_point(down, rows, weights, ys);
-    let z = weighted_point(down, rows, weights, zs);
+    let x = weighted_point(weights, xs);
+    let y = weighted_point(weights, ys);
+    let z = weighted_point(weights, zs);
     Point { x, y, z }
 }
 
@@ -98,8 +120,8 @@ pub fn surface_point(net: &[i32], w: usize, h: usize, p: usize, q: usize) -> Poi
     }
     let c = load_triangle(net, w, i, j, down);
     let o = put_in_order(at.a, at.b, at.d);
-    let rows = o.rows;
-    PointAnswer::At(evaluate(down, rows, o.a, o.b, o.g, c))
+    let t = arrange(turn(c, down), o.p, o.q, o.t);
+    PointAnswer::At(evaluate(o.ahead, o.a, o.b, o.g, t))
 }
 
 // A whole number of net units in millimetres: converted, then divided by 1,024.

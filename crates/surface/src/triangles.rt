@@ -5,10 +5,10 @@ ghost use mathlib.Core.Path.{_≡_};
 ghost use mathlib.Core.Bool.{_||_};
 ghost use mathlib.Core.List.{[], _∷_};
 ghost use Prim.Native.Nat.{_+_, _≤_, _<_};
-ghost use lib.ListN.{length};
+ghost use lib.ListN.{length, getD};
 ghost use Rattle.net.specs.Net.{one, two, three, vertexAt, triangleAt, start, vertexNumbers, entry};
 ghost use Rattle.net.specs.TurnedAway.{anyBeyond};
-ghost use Rattle.surface.specs.Evaluation.{InNet, cornerControls, valuesIn};
+ghost use Rattle.surface.specs.Evaluation.{InNet, cornerControls, valuesIn, turned, arranged};
 ghost use Rattle.surface.specs.TurnedAway.{triangleBeyond};
 
 // Whether one of the numbers of three vertices is outside the net range.
@@ -81,4 +81,39 @@ pub fn coordinate_values(c: [[[i32; 3]; 3]; 3], x: usize) -> [i32; 9]
     let b = column(c[1], x);
     let d = column(c[2], x);
     [a[0], a[1], a[2], b[0], b[1], b[2], d[0], d[1], d[2]]
+}
+
+// The control points of a corner in another order.
+fn pick(c: [[i32; 3]; 3], k: usize, n: usize, m: usize) -> [[i32; 3]; 3]
+    requires { ⌜ (k < 3) × (n < 3) × (m < 3) ⌝ }
+    ensures { λ r. ⌜ r ≡ getD c k [] ∷ getD c n [] ∷ getD c m [] ∷ [] ⌝ }
+{
+    [c[k], c[n], c[m]]
+}
+
+// The control points of each corner in the order ck, cn, cm of document 01's Bézier net.
+pub fn turn(c: [[[i32; 3]; 3]; 3], down: bool) -> [[[i32; 3]; 3]; 3]
+    ensures { λ r. ⌜ r ≡ turned down c ⌝ }
+{
+    if down {
+        [
+            pick(c[0], 1, 0, 2),
+            pick(c[1], 0, 2, 1),
+            pick(c[2], 2, 1, 0),
+        ]
+    } else {
+        [
+            pick(c[0], 0, 1, 2),
+            pick(c[1], 1, 2, 0),
+            pick(c[2], 2, 0, 1),
+        ]
+    }
+}
+
+// The corners in another order.
+pub fn arrange(c: [[[i32; 3]; 3]; 3], p: usize, q: usize, t: usize) -> [[[i32; 3]; 3]; 3]
+    requires { ⌜ (p < 3) × (q < 3) × (t < 3) ⌝ }
+    ensures { λ r. ⌜ r ≡ arranged p q t c ⌝ }
+{
+    [c[p], c[q], c[t]]
 }

@@ -1,6 +1,5 @@
 -- `surface::points::evaluate` meets its contract.
-use Rattle.surface.proofs.SurfacePoints.{coefficients-within}
-use Rattle.surface.specs.Evaluation.{pointFrom}
+use Rattle.surface.proofs.Evaluation.{parts-within}
 use Rattle.exact.proofs.SignedCode.{reads-back}
 use Rattle.exact.specs.WeightedSum.{weightedSum, Within}
 use Rattle.exact.specs.Rounding.{rounded}
@@ -9,7 +8,6 @@ use mir.Syntax.{w32}
 use lib.Signed.{mag}
 use lib.IntN.{ℤ}
 use Prim.Native.Nat.{_<_, _^_}
-use mathlib.Core.List.{map}
 use mathlib.Core.Path.{_≡_, sym, subst, _∙_}
 use borrow.Author.Needs.{needs}
 use Rattle.surface.proofs.points.evaluate.Statement.{statement}
@@ -19,8 +17,8 @@ use Rattle.surface.proofs.points.evaluate.Tie as tie
 point : (z : ℤ) {y x : ℤ} → mag z < 2 ^ 31 → z ≡ y → y ≡ x → toZ w32 (ofZ w32 z) ≡ x
 point z g e f = reads-back w32 z g ∙ e ∙ f
 
-squares-requires : tie.Need-squares-requires
-squares-requires c κs = search needs
+parts-of-requires : tie.Need-parts-of-requires
+parts-of-requires c κs = search needs
 
 coordinate-values-requires : tie.Need-coordinate-values-requires
 coordinate-values-requires c κs = search needs
@@ -33,43 +31,39 @@ coordinate-values-requires-3 c κs = search needs
 
 weighted-point-requires : tie.Need-weighted-point-requires
 weighted-point-requires c κs = (
-  c .before .before .before .before .pre .all-rows,
-  subst (Within 12582912) (sym (c .before .before .before .squares .ensures)) (coefficients-within _ _ _ (c .before .before .before .before .pre .first-small) (c .before .before .before .before .pre .second-small) (c .before .before .before .before .pre .last-small)),
+  subst (Within 25165824) (sym (c .before .before .before .parts-of .ensures)) (parts-within (c .before .before .before .before .args .ahead) (c .before .before .before .before .args .a) (c .before .before .before .before .args .b) (c .before .before .before .before .args .g) (c .before .before .before .before .pre .gaps)),
   subst (Within 16777216) (sym (c .before .before .coordinate-values .ensures)) (c .before .before .before .before .pre .within-0),
 )
 
 weighted-point-requires-2 : tie.Need-weighted-point-requires-2
 weighted-point-requires-2 c κs = (
-  c .before .before .before .before .before .pre .all-rows,
-  subst (Within 12582912) (sym (c .before .before .before .before .squares .ensures)) (coefficients-within _ _ _ (c .before .before .before .before .before .pre .first-small) (c .before .before .before .before .before .pre .second-small) (c .before .before .before .before .before .pre .last-small)),
+  subst (Within 25165824) (sym (c .before .before .before .before .parts-of .ensures)) (parts-within (c .before .before .before .before .before .args .ahead) (c .before .before .before .before .before .args .a) (c .before .before .before .before .before .args .b) (c .before .before .before .before .before .args .g) (c .before .before .before .before .before .pre .gaps)),
   subst (Within 16777216) (sym (c .before .before .coordinate-values2 .ensures)) (c .before .before .before .before .before .pre .within-1),
 )
 
 weighted-point-requires-3 : tie.Need-weighted-point-requires-3
 weighted-point-requires-3 c κs = (
-  c .before .before .before .before .before .before .pre .all-rows,
-  subst (Within 12582912) (sym (c .before .before .before .before .before .squares .ensures)) (coefficients-within _ _ _ (c .before .before .before .before .before .before .pre .first-small) (c .before .before .before .before .before .before .pre .second-small) (c .before .before .before .before .before .before .pre .last-small)),
+  subst (Within 25165824) (sym (c .before .before .before .before .before .parts-of .ensures)) (parts-within (c .before .before .before .before .before .before .args .ahead) (c .before .before .before .before .before .before .args .a) (c .before .before .before .before .before .before .args .b) (c .before .before .before .before .before .before .args .g) (c .before .before .before .before .before .before .pre .gaps)),
   subst (Within 16777216) (sym (c .before .before .coordinate-values3 .ensures)) (c .before .before .before .before .before .before .pre .within-2),
 )
 
 returns : tie.Need-returns
-returns c =
-    let a = c .before .before .before .before .before .before .before .args in (
-      point (c .before .before .weighted-point .result) (c .before .before .weighted-point .ok) (c .before .before .weighted-point .ensures)
-          (λ t. rounded (weightedSum (c .before .before .before .before .before .before .squares .ensures t) (map (pointFrom (a .down) (c .before .before .before .before .before .coordinate-values .ensures t)) (a .rows))) 37748736),
-      (
-        point (c .before .weighted-point2 .result) (c .before .weighted-point2 .ok) (c .before .weighted-point2 .ensures)
-            (λ t. rounded (weightedSum (c .before .before .before .before .before .before .squares .ensures t) (map (pointFrom (a .down) (c .before .before .before .before .coordinate-values2 .ensures t)) (a .rows))) 37748736),
-        point (c .weighted-point3 .result) (c .weighted-point3 .ok) (c .weighted-point3 .ensures)
-            (λ t. rounded (weightedSum (c .before .before .before .before .before .before .squares .ensures t) (map (pointFrom (a .down) (c .before .before .before .coordinate-values3 .ensures t)) (a .rows))) 37748736),
-      ),
-    )
+returns c = (
+  point (c .before .before .weighted-point .result) (c .before .before .weighted-point .ok) (c .before .before .weighted-point .ensures)
+      (λ t. rounded (weightedSum (c .before .before .before .before .before .before .parts-of .ensures t) (c .before .before .before .before .before .coordinate-values .ensures t)) 37748736),
+  (
+    point (c .before .weighted-point2 .result) (c .before .weighted-point2 .ok) (c .before .weighted-point2 .ensures)
+        (λ t. rounded (weightedSum (c .before .before .before .before .before .before .parts-of .ensures t) (c .before .before .before .before .coordinate-values2 .ensures t)) 37748736),
+    point (c .weighted-point3 .result) (c .weighted-point3 .ok) (c .weighted-point3 .ensures)
+        (λ t. rounded (weightedSum (c .before .before .before .before .before .before .parts-of .ensures t) (c .before .before .before .coordinate-values3 .ensures t)) 37748736),
+  ),
+)
 
 pub evaluate-spec : {M : Type 1} → statement M
 evaluate-spec =
     tie.close
     (tie.spec
-    squares-requires
+    parts-of-requires
     coordinate-values-requires
     coordinate-values-requires-2
     coordinate-values-requires-3

@@ -1,9 +1,9 @@
 -- `surface::points::surface_point` meets its contract.
-use Rattle.surface.proofs.SurfacePoints.{GoodPlace, good-place, refused-place, range-refusal, refused-point, accepted-point, share-small, in-order-of, evaluable, evaluated-coordinate}
+use Rattle.surface.proofs.SurfacePoints.{GoodPlace, good-place, refused-place, range-refusal, refused-point, accepted-point, share-small, in-order-of, evaluable, evaluated-coordinate, below-three}
 use Rattle.surface.proofs.Cells.{in-net-place}
-use Rattle.surface.specs.Evaluation.{InNet, InOrder, cornerControls}
+use Rattle.surface.specs.Evaluation.{InNet, InOrder, cornerControls, Evaluable, turned, arranged, evaluated}
 use Rattle.surface.specs.TurnedAway.{triangleBeyond}
-use Rattle.surface.specs.SurfacePoint.{chosen, share, orderOf}
+use Rattle.surface.specs.SurfacePoint.{chosen, share, orderOf, cornerP, cornerQ, cornerT}
 use Rattle.net.proofs.Faults.{cond-true, cond-false}
 use Rattle.net.specs.Net.{one, two, three, triangleAt, Index, Triangle}
 use lib.IntN.{ℤ}
@@ -71,11 +71,19 @@ shares-of e = share 1024 (w e) (h e) (p e) (q e)
 in-order : (c : tie.After-put-in-order) →
     (let o = c .put-in-order .result in
     let s = shares-of (at (c .before .before .before .before)) in
-    InOrder (orderOf s) s (o .rows) (o .a) (o .b) (o .g))
+    InOrder (orderOf s) s (o .p) (o .q) (o .t) (o .ahead) (o .a) (o .b) (o .g))
 in-order c =
     let l = c .before .before .before .before in
     let found = l .locate .ensures in
     in-order-of (shares-of (at l)) (found .share-1) (found .share-2) (found .share-3) (c .put-in-order .ensures)
+
+-- the control triangles, turned and arranged
+arranged-is : (c : tie.After-arrange) →
+    (let o = c .before .before .put-in-order .result in
+    c .arrange .result ≡ arranged (o .p) (o .q) (o .t) (turned (c .before .before .before .before .before .before .locate .result .down) (c .before .before .before .load-triangle .result)))
+arranged-is c =
+    let o = c .before .before .put-in-order .result in
+    c .arrange .ensures ∙ ap (arranged (o .p) (o .q) (o .t)) (c .before .turn .ensures)
 
 place-refusal-requires : tie.Need-place-refusal-requires
 place-refusal-requires c κs = search needs
@@ -113,25 +121,39 @@ put-in-order-requires c κs =
       subst (λ (n : ℕ). n ≤ 1024) (sym (l .locate .ensures .share-3)) (small three),
     )
 
+turn-requires : tie.Need-turn-requires
+turn-requires c κs = search needs
+
+arrange-requires : tie.Need-arrange-requires
+arrange-requires c κs =
+    let o = orderOf (shares-of (at (c .before .before .before .before .before))) in
+    let i = in-order (c .before) in
+    (below-three (cornerP o) (i .first-corner), below-three (cornerQ o) (i .second-corner), below-three (cornerT o) (i .last-corner))
+
 evaluate-requires : tie.Need-evaluate-requires
 evaluate-requires c κs =
-    let f = c .before .before .before in
-    let l = f .before .before in
-    let e = at l in
-    evaluable (net e) (w e) (h e) (p e) (q e) (good e) (sym (beyond (f .before)) ∙ f .if2 .left) (loaded (c .before .before)) (in-order (c .before))
-
-returns-3 : tie.Need-returns-3
-returns-3 c =
     let o = c .before .before in
     let v = o .before in
     let f = v .before in
     let l = f .before .before in
     let e = at l in
+    subst (Evaluable _ _ _) (sym (arranged-is c))
+    (evaluable (net e) (w e) (h e) (p e) (q e) (good e) (sym (beyond (f .before)) ∙ f .if2 .left) (l .locate .ensures .kind) (loaded v) (in-order o))
+
+returns-3 : tie.Need-returns-3
+returns-3 c =
+    let t = arranged-is (c .before) in
+    let o = c .before .before .before in
+    let f = o .put-in-order .result in
+    let v = o .before in
+    let l = v .before .before .before in
+    let kind = l .locate .ensures .kind in
+    let e = at l in
     accepted-point (net e) (w e) (h e) (p e) (q e)
-    (range-refusal (net e) (w e) (h e) (p e) (q e) (good e) (cond-false _ 3 0 (sym (beyond (f .before)) ∙ f .if2 .left) refl))
-    (c .evaluate .ensures .0 ∙ evaluated-coordinate (net e) (w e) (h e) (p e) (q e) 0 (l .locate .ensures .kind) (loaded v) (in-order o))
-    (c .evaluate .ensures .1 .0 ∙ evaluated-coordinate (net e) (w e) (h e) (p e) (q e) 1 (l .locate .ensures .kind) (loaded v) (in-order o))
-    (c .evaluate .ensures .1 .1 ∙ evaluated-coordinate (net e) (w e) (h e) (p e) (q e) 2 (l .locate .ensures .kind) (loaded v) (in-order o))
+    (range-refusal (net e) (w e) (h e) (p e) (q e) (good e) (cond-false _ 3 0 (sym (beyond (v .before .before)) ∙ v .before .if2 .left) refl))
+    (c .evaluate .ensures .0 ∙ ap (λ (l : List (List (List ℤ))). evaluated (f .ahead) (f .a) (f .b) (f .g) l 0) t ∙ evaluated-coordinate (net e) (w e) (h e) (p e) (q e) 0 kind (loaded v) (in-order o))
+    (c .evaluate .ensures .1 .0 ∙ ap (λ (l : List (List (List ℤ))). evaluated (f .ahead) (f .a) (f .b) (f .g) l 1) t ∙ evaluated-coordinate (net e) (w e) (h e) (p e) (q e) 1 kind (loaded v) (in-order o))
+    (c .evaluate .ensures .1 .1 ∙ ap (λ (l : List (List (List ℤ))). evaluated (f .ahead) (f .a) (f .b) (f .g) l 2) t ∙ evaluated-coordinate (net e) (w e) (h e) (p e) (q e) 2 kind (loaded v) (in-order o))
 
 pub surface-point-spec : {M : Type 1} → statement M
 surface-point-spec =
@@ -144,5 +166,7 @@ surface-point-spec =
     returns-2
     load-triangle-requires
     put-in-order-requires
+    turn-requires
+    arrange-requires
     evaluate-requires
     returns-3)
