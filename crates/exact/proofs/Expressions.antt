@@ -2,7 +2,7 @@
 -- list of terms. Two expressions with the same normal form have the same value: `identity a b ρ refl` proves `value ρ a ≡ value ρ b`. `value` computes, so
 -- that is the identity as it is written.
 use mathlib.Core.Path.{_≡_, refl, sym, _∙_, ap, subst}
-use mathlib.Core.List.{List, [], _∷_}
+use mathlib.Core.List.{List, [], _∷_, map}
 use mathlib.Core.Bool.{Bool, true, false}
 use Prim.Native.Nat.{ℕ, compare, Ordering, Ordering·lt, Ordering·eq, Ordering·gt}
 use lib.Dec.{T, leb, eqb, isEq, eqb→eq}
@@ -247,3 +247,11 @@ module _ (ρ : List ℤ) where
 
 pub identity : (a b : Expr) (ρ : List ℤ) → normal a ≡ normal b → value ρ a ≡ value ρ b
 identity a b ρ e = sym (normal-value ρ a) ∙ ap (termsValue ρ) e ∙ normal-value ρ b
+
+-- and so for lists of expressions
+values-normal : (ρ : List ℤ) (es : List Expr) → map (value ρ) es ≡ map (termsValue ρ) (map normal es)
+values-normal ρ [] = refl
+values-normal ρ (e ∷ es) = λ t. sym (normal-value ρ e) t ∷ values-normal ρ es t
+
+pub identities : (es fs : List Expr) (ρ : List ℤ) → map normal es ≡ map normal fs → map (value ρ) es ≡ map (value ρ) fs
+identities es fs ρ e = values-normal ρ es ∙ ap (map (termsValue ρ)) e ∙ sym (values-normal ρ fs)

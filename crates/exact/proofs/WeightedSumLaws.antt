@@ -147,28 +147,23 @@ sum-size m n (w ∷ ws) [] h k = zero-le
 sum-size m n (w ∷ ws) (v ∷ vs) h k =
     omega (arith, size-sum (w *ℤ v) (weightedSum ws vs), size-product w v, mul-le-mul (h .0) (k .0), sum-size m n ws vs (h .1) (k .1))
 
--- weights that are not negative: the sum of the weights times a bound for the values
-pub sum-within : (n : ℕ) (ws vs : List ℤ) → NotNegative ws → Within n vs → natAbs (weightedSum ws vs) ≤ n * natAbs (total ws)
-unfolding weightedSum total
-sum-within n [] vs h k = zero-le
-sum-within n (w ∷ ws) [] h k = zero-le
-sum-within n (w ∷ ws) (v ∷ vs) h k =
+-- the sizes of the weights, added up, times a bound for the values
+abbrev pub sizes : List ℤ → ℕ
+sizes [] = 0
+sizes (w ∷ ws) = natAbs w + sizes ws
+
+pub sum-sizes : (n : ℕ) (ws vs : List ℤ) → Within n vs → natAbs (weightedSum ws vs) ≤ sizes ws * n
+unfolding weightedSum
+sum-sizes n [] vs k = zero-le
+sum-sizes n (w ∷ ws) [] k = zero-le
+sum-sizes n (w ∷ ws) (v ∷ vs) k =
     omega (
       arith,
       size-sum (w *ℤ v) (weightedSum ws vs),
       size-product w v,
       mul-le-mul (le-refl (natAbs w)) (k .0),
-      sum-within n ws vs (h .1) (k .1),
-      ap (λ (m : ℕ). n * m) (total-size w ws h),
+      sum-sizes n ws vs (k .1),
     )
-
--- and no weight is larger than their sum
-pub weights-within : (n : ℕ) (ws : List ℤ) → NotNegative ws → natAbs (total ws) ≤ n → Within n ws
-unfolding total
-weights-within n [] h k = tt
-weights-within n (w ∷ ws) h k =
-    let all = total-size w ws h in
-    (omega (arith, all, k), weights-within n ws (h .1) (omega (arith, all, k)))
 
 -- ---- a weighted sum as an expression of its values, whose variable i is the value at i
 

@@ -1,21 +1,25 @@
 -- What an accepted Bézier net is known by, and what a call leaves in its output.
 use mathlib.Core.Path.{_≡_, sym, ap, _∙_}
 use mathlib.Core.Bool.{Bool, false, cond}
-use mathlib.Core.List.{List, [], _∷_}
-use Prim.Native.Nat.{ℕ, _≤_}
+use mathlib.Core.List.{List, [], _∷_, map}
+use Prim.Native.Nat.{ℕ, _≤_, _<_}
 use lib.Dec.{ltb, lit<}
-use lib.IntN.{ℤ, pos}
-use lib.ListN.{length, getD}
+use lib.IntN.{ℤ}
+use lib.ListN.{length}
 use borrow.Author.Tests.{ltb-false, ne-eqb}
+use Rattle.exact.specs.WeightedSum.{weightedSum, Within}
 use Rattle.exact.specs.Filling.{over, runs}
 use Rattle.net.specs.Net.{Triangle, triangleAt, field}
 use Rattle.net.specs.TurnedAway.{Fault, badSize, shortNet, accepted}
 use Rattle.net.proofs.Faults.{fault-none}
-use Rattle.surface.specs.BezierNet.{controlsOf, controlList, bezierPoints, bezierNumbers}
+use Rattle.surface.specs.BezierNet.{controlsOf, bezierPoints, bezierNumbers}
 use Rattle.surface.specs.TurnedAway.{noTriangle, triangleBeyond, bezierRefusal}
 use Rattle.surface.specs.Answers.{bezierOutput}
-use Rattle.surface.specs.Evaluation.{InNet, pointsFrom}
-use Rattle.surface.proofs.Corners.{in-net-triangle, same-points}
+use Rattle.surface.specs.SurfacePoint.{o123}
+use Rattle.surface.specs.Evaluation.{InNet, cornerControls, turned, valuesIn, bezierRows, threeAt}
+use Rattle.surface.proofs.Corners.{in-net-triangle, value-size}
+use Rattle.surface.proofs.CornerForm.{inForm, form-values, loaded-form, form-within}
+use Rattle.surface.proofs.Weights.{points-by-rows}
 
 pub record GoodTriangle (net : List ℤ) (w i j : ℕ) (down : Bool) (room : ℕ) : Type 0 where
   pub lies : InNet net w i j
@@ -39,13 +43,35 @@ good-triangle net w h i j down room e =
       range = e₃ .0;
     }
 
+-- the nine control values in coordinate x, in corner form
+abbrev pub formed : List ℤ → ℕ → Triangle → ℕ → List ℤ
+formed net w t x = inForm (t .down) (controlsOf (field net w x) t) o123
+
+-- what the code reads of the loaded and turned control triangles
+pub turned-values : (net : List ℤ) (w : ℕ) (t : Triangle) {c d : List (List (List ℤ))} → c ≡ cornerControls net w t → d ≡ turned (t .down) c →
+    (x : ℕ) {values : List ℤ} → values ≡ valuesIn d x → values ≡ formed net w t x
+turned-values net w t ec ed x q =
+    q
+    ∙ ap (λ (d : List (List (List ℤ))). valuesIn d x) (ed ∙ ap (turned (t .down)) ec)
+    ∙ form-values (t .down) o123 (cornerControls net w t) x
+    ∙ loaded-form net w t (t .down) o123 x
+
+-- they are in range
+pub formed-within : (net : List ℤ) (w i j : ℕ) (down : Bool) → InNet net w i j → triangleBeyond net w (triangleAt i j down) ≡ false →
+    (x : ℕ) → x < 3 → Within 16777216 (formed net w (triangleAt i j down) x)
+formed-within net w i j down l e x h =
+    form-within 16777216 down (controlsOf (field net w x) (triangleAt i j down)) o123 (value-size net w i j down l e x h)
+
 -- the points of the control values are the points of the net
+abbrev pub pointsOf : List ℤ → List ℤ
+pointsOf values = map (λ (row : List ℤ). weightedSum row values) bezierRows
+
 pub points-of-net : (net : List ℤ) (w : ℕ) (t : Triangle) →
-    runs 19 (pointsFrom (t .down) (controlList (controlsOf (field net w 0) t)) (controlList (controlsOf (field net w 1) t)) (controlList (controlsOf (field net w 2) t)))
-    ≡ bezierNumbers net w t
+    runs 19 (threeAt (pointsOf (formed net w t 0)) (pointsOf (formed net w t 1)) (pointsOf (formed net w t 2))) ≡ bezierNumbers net w t
 points-of-net net w t =
-    let same : (x : ℕ) → _ = λ x. same-points (t .down) (controlsOf (field net w x) t) in
-    λ i. runs 19 (λ (n : ℕ). getD (same 0 i) n (pos 0) ∷ getD (same 1 i) n (pos 0) ∷ getD (same 2 i) n (pos 0) ∷ [])
+    let same : (x : ℕ) → pointsOf (formed net w t x) ≡ bezierPoints (t .down) (controlsOf (field net w x) t) =
+    λ x. points-by-rows (t .down) (controlsOf (field net w x) t) in
+    λ i. runs 19 (threeAt (same 0 i) (same 1 i) (same 2 i))
 
 -- the output where the call is accepted, and where it is refused
 pub accepted-output : (net : List ℤ) (w h i j : ℕ) (down : Bool) (out : List ℤ) → bezierRefusal net w h i j down (length out) ≡ 0 →

@@ -14,7 +14,7 @@ use Rattle.net.specs.Net.{Index, one, two, three, rank, next, previous, Triangl
 use Rattle.net.specs.TurnedAway.{badSize, shortNet, anyBeyond}
 use Rattle.net.proofs.Faults.{or-none}
 use Rattle.net.proofs.Places.{GoodSize, good-size, vertex-ends, field-size}
-use Rattle.surface.specs.BezierNet.{Controls, controlsOf, controlList, controlsIn, indexK, indexM, indexN, bezierPoints}
+use Rattle.surface.specs.BezierNet.{controlsOf, controlList, indexK, indexM, indexN}
 use Rattle.surface.specs.TurnedAway.{noTriangle, triangleBeyond}
 use Rattle.surface.specs.Evaluation.{InNet, cornerControls, valuesIn}
 
@@ -72,12 +72,6 @@ values-within net w i j down l e x h =
 pub loaded-values : (net : List ℤ) (w : ℕ) (t : Triangle) {c : List (List (List ℤ))} → c ≡ cornerControls net w t →
     (x : ℕ) {values : List ℤ} → values ≡ valuesIn c x → values ≡ controlList (controlsOf (field net w x) t)
 loaded-values net w t e x q = q ∙ ap (λ (c : List (List (List ℤ))). valuesIn c x) e
-
--- the control values as a list and back
-pub same-points : (down : Bool) (c : Controls) → bezierPoints down (controlsIn (controlList c)) ≡ bezierPoints down c
-unfolding bezierPoints
-same-points false c = refl
-same-points true c = refl
 
 -- 'one neighbour is P + ek, the other P - em; n is the third index': the next corner is P + ek and the previous one P - em, in both triangles
 back : (n : ℕ) → pos n ≡ pos (n + 1) +ℤ negsuc 0

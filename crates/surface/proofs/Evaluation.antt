@@ -1,36 +1,35 @@
 -- The evaluation by parts gives document 01's exact value: nine control values, each times its factor in the point, add up to it. And the bounds
 -- that keep the point an i32.
-use mathlib.Core.Path.{_≡_, refl, ap, sym, subst, _∙_}
+use mathlib.Core.Path.{_≡_, refl, ap, sym, _∙_}
 use mathlib.Core.Bool.{Bool, true, false, _&&_}
 use mathlib.Core.List.{List, [], _∷_, _++_, map}
-use Prim.Native.Nat.{ℕ, _+_, _*_, _≤_, _<_, _^_, zero-le}
+use Prim.Native.Nat.{ℕ, _+_, _*_, _≤_, _<_, _^_}
 use native.Mathlib.Nat.{mul-le-mul}
 use native.Mathlib.Omega.{arith}
-use lib.Dec.{T, leb, leb→le, le→leb, lit<}
+use lib.Dec.{T, leb, leb→le, lit<}
 use lib.IntN.{ℤ, pos, natAbs, _+ℤ_, _*ℤ_}
-use lib.ListN.{length, getD}
-use lib.Signed.{mag, _≤ℤ_, leZ-yes}
+use lib.ListN.{length}
+use lib.Signed.{mag}
 use mir.Facts.{and-yes}
 use mir.Syntax.{w64}
 use mir.Val.{toZ, ofZ}
 use Rattle.exact.specs.Rounding.{rounded}
-use Rattle.exact.specs.WeightedSum.{weightedSum, total, Summed, Within}
+use Rattle.exact.specs.WeightedSum.{weightedSum, Summed, Within}
 use Rattle.exact.proofs.Expressions.{Expr, var, lit, _⊕_, _⊗_, value, identity}
 use Rattle.exact.proofs.SignedCode.{reads-back}
-use Rattle.exact.proofs.WeightedSumLaws.{NotNegative, weightedSum-sym, sum-size, sum-within, sumFrom, sum-expression}
+use Rattle.exact.proofs.WeightedSumLaws.{weightedSum-sym, sum-size, sizes, sum-sizes, sumFrom, sum-expression}
 use Rattle.exact.proofs.RoundingLaws.{rounded-size}
-use Rattle.net.specs.Net.{Index, one, two, three, rank, entry}
-use Rattle.surface.specs.BezierNet.{Controls, controlList, indexK, indexM, indexN}
-use Rattle.surface.specs.SurfacePoint.{Order, o123, o132, o213, o231, o312, o321, cornerP, cornerQ, cornerT, quadratic}
-use Rattle.surface.specs.Evaluation.{aheadOf, turned, arranged, valuesIn, coefficients, partRows, parts}
-use Rattle.surface.proofs.Weights.{s, u, v, r, m, z}
+use Rattle.net.specs.Net.{Index, rank}
+use Rattle.surface.specs.BezierNet.{Controls, controlList}
+use Rattle.surface.specs.SurfacePoint.{Order, o123, o132, o213, o231, o312, o321, cornerP, cornerQ, quadratic}
+use Rattle.surface.specs.Evaluation.{aheadOf, coefficients, partRows, parts}
+use Rattle.surface.proofs.CornerForm.{inForm, summed, s, u, v, r, m, z}
 
 -- ---- the parts are small
 
 -- the squares of three gaps add up to the square of their sum
-squares-total : (A B G : ℕ) → total (coefficients A B G) ≡ pos ((A + B + G) * (A + B + G))
-unfolding total
-squares-total A B G =
+squares-sum : (A B G : ℕ) → pos (sizes (coefficients A B G)) ≡ pos ((A + B + G) * (A + B + G))
+squares-sum A B G =
     identity
     (var 0 ⊗ var 0
     ⊕ (lit (pos 2) ⊗ (var 0 ⊗ var 1)
@@ -38,12 +37,6 @@ squares-total A B G =
     ((var 0 ⊕ var 1 ⊕ var 2) ⊗ (var 0 ⊕ var 1 ⊕ var 2))
     (pos A ∷ pos B ∷ pos G ∷ [])
     refl
-
-squares-not-negative : (A B G : ℕ) → NotNegative (coefficients A B G)
-squares-not-negative A B G = (at, (at, (at, (at, (at, (at, tt))))))
-  where
-    at : {n : ℕ} → pos 0 ≤ℤ pos n
-    at {n} = leZ-yes (le→leb 0 n zero-le)
 
 -- no weight of the tables is above 24
 abbrev small : List ℤ → Bool
@@ -69,8 +62,8 @@ rows-within A B G k (row ∷ rows) h =
       omega (
         arith,
         ap natAbs (weightedSum-sym row ks),
-        sum-within 24 ks row (squares-not-negative A B G) (small-within row (h₂ .0)),
-        ap natAbs (squares-total A B G),
+        sum-sizes 24 ks row (small-within row (h₂ .0)),
+        ap natAbs (squares-sum A B G),
         mul-le-mul k k,
       ),
       rows-within A B G k rows (h₂ .1),
@@ -95,65 +88,21 @@ part z g s = reads-back w64 z g ∙ s .sum
 pub none : (k : List ℤ) → length k ≡ 6 → pos 0 ≡ weightedSum (pos 0 ∷ pos 0 ∷ pos 0 ∷ pos 0 ∷ pos 0 ∷ pos 0 ∷ []) k
 none k e = sym (sum-expression (pos 0 ∷ pos 0 ∷ pos 0 ∷ pos 0 ∷ pos 0 ∷ pos 0 ∷ []) k 0 (omega (arith, e)) ∙ identity (sumFrom (pos 0 ∷ pos 0 ∷ pos 0 ∷ pos 0 ∷ pos 0 ∷ pos 0 ∷ []) 0) (lit (pos 0)) k refl)
 
--- ---- the nine values in the order of the parts
-
--- ck, cn, cm of P, of Q and of T
-abbrev pub cornerForm : Bool → Controls → Order → List ℤ
-cornerForm down c o =
-    c (cornerP o) (indexK down (cornerP o)) ∷ c (cornerP o) (indexN down (cornerP o)) ∷ c (cornerP o) (indexM down (cornerP o))
-    ∷ c (cornerQ o) (indexK down (cornerQ o)) ∷ c (cornerQ o) (indexN down (cornerQ o)) ∷ c (cornerQ o) (indexM down (cornerQ o))
-    ∷ c (cornerT o) (indexK down (cornerT o)) ∷ c (cornerT o) (indexN down (cornerT o)) ∷ c (cornerT o) (indexM down (cornerT o))
-    ∷ []
-
--- what the turned and arranged control triangles hold
-pub form-values : (down : Bool) (o : Order) (c : List (List (List ℤ))) (x : ℕ) →
-    valuesIn (arranged (rank (cornerP o)) (rank (cornerQ o)) (rank (cornerT o)) (turned down c)) x
-    ≡ cornerForm down (λ P k. entry (getD c (rank P) []) k x) o
-form-values false o123 c x = refl
-form-values false o132 c x = refl
-form-values false o213 c x = refl
-form-values false o231 c x = refl
-form-values false o312 c x = refl
-form-values false o321 c x = refl
-form-values true o123 c x = refl
-form-values true o132 c x = refl
-form-values true o213 c x = refl
-form-values true o231 c x = refl
-form-values true o312 c x = refl
-form-values true o321 c x = refl
-
--- they are in range where each control value is
-pub form-within : (n : ℕ) (down : Bool) (c : Controls) (o : Order) → ((P k : Index) → natAbs (c P k) ≤ n) → Within n (cornerForm down c o)
-form-within n down c o h =
-    (h _ _, (h _ _, (h _ _, (h _ _, (h _ _, (h _ _, (h _ _, (h _ _, (h _ _, tt)))))))))
-
 -- ---- their weighted sum is the exact value
 
 -- variables 0 to 5 are the squares, 6 to 14 the control values by corner and then c1 to c3
 abbrev c : Index → Index → Expr
 c P k = var (6 + (3 * rank P + rank k))
 
-abbrev formed : Bool → Order → List Expr
-formed down o =
-    c (cornerP o) (indexK down (cornerP o)) ∷ c (cornerP o) (indexN down (cornerP o)) ∷ c (cornerP o) (indexM down (cornerP o))
-    ∷ c (cornerQ o) (indexK down (cornerQ o)) ∷ c (cornerQ o) (indexN down (cornerQ o)) ∷ c (cornerQ o) (indexM down (cornerQ o))
-    ∷ c (cornerT o) (indexK down (cornerT o)) ∷ c (cornerT o) (indexN down (cornerT o)) ∷ c (cornerT o) (indexM down (cornerT o))
-    ∷ []
-
-abbrev summed : List Expr → List Expr → Expr
-summed [] es = lit (pos 0)
-summed (w ∷ ws) [] = lit (pos 0)
-summed (w ∷ ws) (e ∷ es) = w ⊗ e ⊕ summed ws es
-
 abbrev byParts : Bool → Order → Expr
-byParts down o = summed (map (λ (row : List ℤ). sumFrom row 0) (partRows (aheadOf o))) (formed down o)
+byParts down o = summed (map (λ (row : List ℤ). sumFrom row 0) (partRows (aheadOf o))) (inForm down c o)
 
 abbrev byPoints : Bool → Index → Index → Expr
 byPoints down P Q =
     var 0 ⊗ s c P ⊕ var 1 ⊗ u c down P Q ⊕ var 2 ⊗ v c down P ⊕ var 3 ⊗ r c down P Q ⊕ var 4 ⊗ m c down P Q ⊕ var 5 ⊗ z c down
 
 pub parts-value : (down : Bool) (e : Controls) (o : Order) (A B G : ℕ) →
-    weightedSum (parts (aheadOf o) A B G) (cornerForm down e o) ≡ quadratic down e (cornerP o) (cornerQ o) A B G
+    weightedSum (parts (aheadOf o) A B G) (inForm down e o) ≡ quadratic down e (cornerP o) (cornerQ o) A B G
 unfolding weightedSum
 parts-value false e o123 A B G = identity (byParts false o123) (byPoints false (cornerP o123) (cornerQ o123)) (coefficients A B G ++ controlList e) refl
 parts-value false e o132 A B G = identity (byParts false o132) (byPoints false (cornerP o132) (cornerQ o132)) (coefficients A B G ++ controlList e) refl

@@ -1,6 +1,7 @@
 -- The laws of Bézier nets, of the evaluation and of surface points.
-pub mod Weights
 pub mod Corners
+pub mod CornerForm
+pub mod Weights
 pub mod BezierNets
 pub mod Orders
 pub mod Cells

@@ -6,11 +6,10 @@ use Prim.Native.Nat.{ℕ, _+_, _-_, _*_, _≤_, _<_}
 use native.Mathlib.Omega.{arith}
 use lib.Dec.{ltb, lit<}
 use lib.IntN.{ℤ, pos, natAbs}
-use lib.ListN.{getD}
 use borrow.Author.Tests.{eq-eqb, ne-eqb, ltb-true, ltb-false}
 use Rattle.exact.specs.Rounding.{rounded}
 use Rattle.exact.specs.WeightedSum.{weightedSum, Within}
-use Rattle.net.specs.Net.{Index, one, two, three, rank, entry, field}
+use Rattle.net.specs.Net.{Index, one, two, three, rank, field}
 use Rattle.net.specs.TurnedAway.{Fault, badSize, shortNet, accepted}
 use Rattle.net.proofs.Faults.{cond-first, cond-false, fault-none, fault-before}
 use Rattle.surface.specs.BezierNet.{controlsOf}
@@ -21,7 +20,8 @@ use Rattle.surface.specs.Evaluation.{placeRefusal, parts, evaluated, cor
 use Rattle.surface.proofs.Corners.{value-size}
 use Rattle.surface.proofs.Cells.{in-cells, in-net-place}
 use Rattle.surface.proofs.Orders.{Sorted, in-order}
-use Rattle.surface.proofs.Evaluation.{cornerForm, form-values, form-within, parts-value}
+use Rattle.surface.proofs.CornerForm.{inForm, form-values, loaded-form, form-within}
+use Rattle.surface.proofs.Evaluation.{parts-value}
 
 -- ---- from what the code found to the definition
 
@@ -44,22 +44,12 @@ pub prepared : (net : List ℤ) (w h p q : ℕ) {down : Bool} {c : List (List (L
     down ≡ chosen 1024 w h p q .down → c ≡ cornerControls net w (chosen 1024 w h p q) →
     InOrder (orderOf (share 1024 w h p q)) (share 1024 w h p q) P Q T ahead A B G →
     (x : ℕ) → valuesIn (arranged P Q T (turned down c)) x
-    ≡ cornerForm (chosen 1024 w h p q .down) (controlsOf (field net w x) (chosen 1024 w h p q)) (orderOf (share 1024 w h p q))
+    ≡ inForm (chosen 1024 w h p q .down) (controlsOf (field net w x) (chosen 1024 w h p q)) (orderOf (share 1024 w h p q))
 prepared net w h p q ek ec i x =
     let t = chosen 1024 w h p q in
     (λ k. valuesIn (arranged (i .first-corner k) (i .second-corner k) (i .last-corner k) (turned (ek k) (ec k))) x)
     ∙ form-values (t .down) (orderOf (share 1024 w h p q)) (cornerControls net w t) x
-    ∙ same (t .down) (orderOf (share 1024 w h p q))
-  where
-    at : (P k : Index) → entry (getD (cornerControls net w (chosen 1024 w h p q)) (rank P) []) k x ≡ controlsOf (field net w x) (chosen 1024 w h p q) P k
-    at one k = refl
-    at two k = refl
-    at three k = refl
-
-    same : (down : Bool) (o : Order) →
-        cornerForm down (λ P k. entry (getD (cornerControls net w (chosen 1024 w h p q)) (rank P) []) k x) o
-        ≡ cornerForm down (controlsOf (field net w x) (chosen 1024 w h p q)) o
-    same down o = λ t. cornerForm down (λ P k. at P k t) o
+    ∙ loaded-form net w t (t .down) (orderOf (share 1024 w h p q)) x
 
 -- the evaluated point is the surface point
 pub evaluated-coordinate : (net : List ℤ) (w h p q x : ℕ) {down : Bool} {c : List (List (List ℤ))} {P Q T : ℕ} {ahead : Bool} {A B G : ℕ} →

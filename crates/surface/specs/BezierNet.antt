@@ -3,11 +3,11 @@
 use mathlib.Core.Path.{_≡_, refl}
 use mathlib.Core.Bool.{Bool, true, false, cond}
 use mathlib.Core.List.{List, [], _∷_}
-use Prim.Native.Nat.{ℕ, _+_, _*_}
+use Prim.Native.Nat.{ℕ}
 use lib.ListN.{getD}
 use lib.IntN.{ℤ, pos, negsuc, _+ℤ_, _*ℤ_}
 use Rattle.exact.specs.Filling.{runs}
-use Rattle.net.specs.Net.{Index, one, two, three, next, previous, rank, Triangle, corner, Field, field}
+use Rattle.net.specs.Net.{Index, one, two, three, next, previous, Triangle, corner, Field, field}
 
 -- the control values of a triangle's corners: corner, then control
 abbrev pub Controls : Type 0
@@ -16,15 +16,12 @@ Controls = Index → Index → ℤ
 abbrev pub controlsOf : Field → Triangle → Controls
 controlsOf F t P k = F (corner t P) k
 
--- the nine control values as a list, by corner and then c1 to c3, and back
+-- the nine control values as a list, by corner and then c1 to c3
 abbrev pub controlList : Controls → List ℤ
 controlList c =
     c one one ∷ c one two ∷ c one three
     ∷ c two one ∷ c two two ∷ c two three
     ∷ c three one ∷ c three two ∷ c three three ∷ []
-
-abbrev pub controlsIn : List ℤ → Controls
-controlsIn values P k = getD values (3 * rank P + rank k) (pos 0)
 
 -- 'For corner P of a triangle, one neighbour is P + ek, the other P - em; n is the third index.' The neighbour P + ek is the next corner and
 -- P - em the previous one, in up and in down triangles (`steps-agree` in proofs/Corners.antt); `down` says which triangle.

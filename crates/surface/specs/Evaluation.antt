@@ -10,7 +10,7 @@ use Rattle.exact.specs.WeightedSum.{weightedSum, Within}
 use Rattle.net.specs.Net.{Index, one, two, three, vertexAt, start, Triangle, corner, controlTriangle, rank, entry}
 use Rattle.net.specs.TurnedAway.{firstFault, badSize, shortNet}
 use Rattle.surface.specs.TurnedAway.{noPlace}
-use Rattle.surface.specs.BezierNet.{controlList, controlsIn, isNext, indexK, indexM, indexN, bezierPoints}
+use Rattle.surface.specs.BezierNet.{controlList, isNext, indexK, indexM, indexN}
 use Rattle.surface.specs.SurfacePoint.{Order, cornerP, cornerQ, cornerT, cell, rest, isDown, share, gapA, gapB, gapG}
 
 -- the corners of both triangles of cell (i, j) lie in the net, and their rows and columns are small numbers
@@ -29,12 +29,32 @@ cornerControls net w t =
 abbrev pub valuesIn : List (List (List ℤ)) → ℕ → List ℤ
 valuesIn c x = controlList (λ P k. entry (getD c (rank P) []) k x)
 
--- point n of the 19 in one coordinate, of nine control values, and as x, y, z
-abbrev pub pointFrom : Bool → List ℤ → ℕ → ℤ
-pointFrom down values n = getD (bezierPoints down (controlsIn values)) n (pos 0)
+-- the weights over 36 of the 19 points, in document 01's order: those of ck, cn, cm at corner 1, at corner 2 and at corner 3
+abbrev pub bezierRows : List (List ℤ)
+bezierRows =
+    (pos 12 ∷ pos 12 ∷ pos 12 ∷ pos 0 ∷ pos 0 ∷ pos 0 ∷ pos 0 ∷ pos 0 ∷ pos 0 ∷ [])
+    ∷ (pos 0 ∷ pos 0 ∷ pos 0 ∷ pos 12 ∷ pos 12 ∷ pos 12 ∷ pos 0 ∷ pos 0 ∷ pos 0 ∷ [])
+    ∷ (pos 0 ∷ pos 0 ∷ pos 0 ∷ pos 0 ∷ pos 0 ∷ pos 0 ∷ pos 12 ∷ pos 12 ∷ pos 12 ∷ [])
+    ∷ (pos 24 ∷ pos 6 ∷ pos 6 ∷ pos 0 ∷ pos 0 ∷ pos 0 ∷ pos 0 ∷ pos 0 ∷ pos 0 ∷ [])
+    ∷ (pos 18 ∷ pos 18 ∷ pos 0 ∷ pos 0 ∷ pos 0 ∷ pos 0 ∷ pos 0 ∷ pos 0 ∷ pos 0 ∷ [])
+    ∷ (pos 0 ∷ pos 0 ∷ pos 0 ∷ pos 18 ∷ pos 18 ∷ pos 0 ∷ pos 0 ∷ pos 0 ∷ pos 0 ∷ [])
+    ∷ (pos 0 ∷ pos 0 ∷ pos 0 ∷ pos 24 ∷ pos 6 ∷ pos 6 ∷ pos 0 ∷ pos 0 ∷ pos 0 ∷ [])
+    ∷ (pos 0 ∷ pos 0 ∷ pos 0 ∷ pos 0 ∷ pos 0 ∷ pos 0 ∷ pos 24 ∷ pos 6 ∷ pos 6 ∷ [])
+    ∷ (pos 0 ∷ pos 0 ∷ pos 0 ∷ pos 0 ∷ pos 0 ∷ pos 0 ∷ pos 18 ∷ pos 18 ∷ pos 0 ∷ [])
+    ∷ (pos 24 ∷ pos 12 ∷ pos 0 ∷ pos 0 ∷ pos 0 ∷ pos 0 ∷ pos 0 ∷ pos 0 ∷ pos 0 ∷ [])
+    ∷ (pos 0 ∷ pos 0 ∷ pos 0 ∷ pos 24 ∷ pos 12 ∷ pos 0 ∷ pos 0 ∷ pos 0 ∷ pos 0 ∷ [])
+    ∷ (pos 0 ∷ pos 0 ∷ pos 0 ∷ pos 0 ∷ pos 0 ∷ pos 0 ∷ pos 24 ∷ pos 12 ∷ pos 0 ∷ [])
+    ∷ (pos 12 ∷ pos 3 ∷ pos 3 ∷ pos 9 ∷ pos 9 ∷ pos 0 ∷ pos 0 ∷ pos 0 ∷ pos 0 ∷ [])
+    ∷ (pos 9 ∷ pos 9 ∷ pos 0 ∷ pos 0 ∷ pos 0 ∷ pos 0 ∷ pos 12 ∷ pos 3 ∷ pos 3 ∷ [])
+    ∷ (pos 0 ∷ pos 0 ∷ pos 0 ∷ pos 12 ∷ pos 3 ∷ pos 3 ∷ pos 9 ∷ pos 9 ∷ pos 0 ∷ [])
+    ∷ (pos 12 ∷ pos 6 ∷ pos 0 ∷ pos 12 ∷ pos 6 ∷ pos 0 ∷ pos 0 ∷ pos 0 ∷ pos 0 ∷ [])
+    ∷ (pos 12 ∷ pos 6 ∷ pos 0 ∷ pos 0 ∷ pos 0 ∷ pos 0 ∷ pos 12 ∷ pos 6 ∷ pos 0 ∷ [])
+    ∷ (pos 0 ∷ pos 0 ∷ pos 0 ∷ pos 12 ∷ pos 6 ∷ pos 0 ∷ pos 12 ∷ pos 6 ∷ pos 0 ∷ [])
+    ∷ (pos 8 ∷ pos 4 ∷ pos 0 ∷ pos 8 ∷ pos 4 ∷ pos 0 ∷ pos 8 ∷ pos 4 ∷ pos 0 ∷ []) ∷ []
 
-abbrev pub pointsFrom : Bool → List ℤ → List ℤ → List ℤ → ℕ → List ℤ
-pointsFrom down xs ys zs n = pointFrom down xs n ∷ pointFrom down ys n ∷ pointFrom down zs n ∷ []
+-- the numbers at n of three lists
+abbrev pub threeAt : List ℤ → List ℤ → List ℤ → ℕ → List ℤ
+threeAt xs ys zs n = getD xs n (pos 0) ∷ getD ys n (pos 0) ∷ getD zs n (pos 0) ∷ []
 
 -- the refusals of a place but for the range: 1, 6, 2
 abbrev pub placeRefusal : List ℤ → ℕ → ℕ → ℕ → ℕ → ℕ

@@ -3,102 +3,82 @@ use crate::answers::Answer;
 use crate::triangles::coordinate_values;
 use crate::triangles::load_triangle;
 use crate::triangles::triangle_beyond;
+use crate::triangles::turn;
 use exact::weighted_sum9;
 use net::bad_size;
 use net::short_net;
 use net::store_point;
 ghost use mathlib.Core.Path.{_≡_};
 ghost use mathlib.Core.Bool.{false};
-ghost use mathlib.Core.List.{[], _∷_};
-ghost use Prim.Native.Nat.{_<_, _≤_, _+_, _^_};
-ghost use lib.IntN.{pos};
-ghost use lib.ListN.{length, getD};
-ghost use Rattle.exact.specs.WeightedSum.{Within};
+ghost use mathlib.Core.List.{map};
+ghost use Prim.Native.Nat.{_≤_};
+ghost use lib.ListN.{length};
+ghost use Rattle.exact.specs.WeightedSum.{weightedSum, Within};
 ghost use Rattle.exact.specs.Filling.{over, runs};
 ghost use Rattle.net.specs.TurnedAway.{badSize};
-ghost use Rattle.surface.specs.BezierNet.{bezierPoints, controlsIn};
 ghost use Rattle.surface.specs.TurnedAway.{noTriangle, bezierRefusal};
 ghost use Rattle.surface.specs.Answers.{answerNumber, bezierOutput};
-ghost use Rattle.surface.specs.Evaluation.{pointsFrom};
+ghost use Rattle.surface.specs.Evaluation.{bezierRows, threeAt};
 
-// The weights over 36 of the 19 points of an up triangle, by corner and then c1 to c3.
-const UP: [[i64; 9]; 19] = [
-    [12, 12, 12, 0, 0, 0, 0, 0, 0],
-    [0, 0, 0, 12, 12, 12, 0, 0, 0],
-    [0, 0, 0, 0, 0, 0, 12, 12, 12],
-    [24, 6, 6, 0, 0, 0, 0, 0, 0],
-    [18, 18, 0, 0, 0, 0, 0, 0, 0],
-    [0, 0, 0, 0, 18, 18, 0, 0, 0],
-    [0, 0, 0, 6, 24, 6, 0, 0, 0],
-    [0, 0, 0, 0, 0, 0, 6, 6, 24],
-    [0, 0, 0, 0, 0, 0, 18, 0, 18],
-    [24, 12, 0, 0, 0, 0, 0, 0, 0],
-    [0, 0, 0, 0, 24, 12, 0, 0, 0],
-    [0, 0, 0, 0, 0, 0, 12, 0, 24],
-    [12, 3, 3, 0, 9, 9, 0, 0, 0],
-    [9, 9, 0, 0, 0, 0, 3, 3, 12],
-    [0, 0, 0, 3, 12, 3, 9, 0, 9],
-    [12, 6, 0, 0, 12, 6, 0, 0, 0],
-    [12, 6, 0, 0, 0, 0, 6, 0, 12],
-    [0, 0, 0, 0, 12, 6, 6, 0, 12],
-    [8, 4, 0, 0, 8, 4, 4, 0, 8],
-];
-
-// Those of a down triangle.
-const DOWN: [[i64; 9]; 19] = [
-    [12, 12, 12, 0, 0, 0, 0, 0, 0],
-    [0, 0, 0, 12, 12, 12, 0, 0, 0],
-    [0, 0, 0, 0, 0, 0, 12, 12, 12],
-    [6, 24, 6, 0, 0, 0, 0, 0, 0],
-    [18, 18, 0, 0, 0, 0, 0, 0, 0],
-    [0, 0, 0, 18, 0, 18, 0, 0, 0],
-    [0, 0, 0, 24, 6, 6, 0, 0, 0],
-    [0, 0, 0, 0, 0, 0, 6, 6, 24],
-    [0, 0, 0, 0, 0, 0, 0, 18, 18],
-    [12, 24, 0, 0, 0, 0, 0, 0, 0],
-    [0, 0, 0, 24, 0, 12, 0, 0, 0],
-    [0, 0, 0, 0, 0, 0, 0, 12, 24],
-    [3, 12, 3, 9, 0, 9, 0, 0, 0],
-    [9, 9, 0, 0, 0, 0, 3, 3, 12],
-    [0, 0, 0, 12, 3, 3, 0, 9, 9],
-    [6, 12, 0, 12, 0, 6, 0, 0, 0],
-    [6, 12, 0, 0, 0, 0, 0, 6, 12],
-    [0, 0, 0, 12, 0, 6, 0, 6, 12],
-    [4, 8, 0, 8, 0, 4, 0, 4, 8],
-];
-
-// Point n of the 19, times 36, in one coordinate. Its weights sum to 36, so it fits for values of the net range.
-pub fn ordinate(down: bool, n: usize, values: [i32; 9]) -> i32
-    requires { ⌜ (n < 19) × Within 16777216 values ⌝ }
-    ensures { λ r. ⌜ r ≡ getD (bezierPoints down (controlsIn values)) n (pos 0) ⌝ }
+// The 19 points times 36, in document 01's order and in one coordinate, of the values of ck, cn, cm at each corner. The weights of a point sum to
+// 36, so it fits for values of the net range.
+fn ordinates(values: [i32; 9]) -> [i32; 19]
+    requires { ⌜ Within 16777216 values ⌝ }
+    ensures { λ r. ⌜ r ≡ map (λ row. weightedSum row values) bezierRows ⌝ }
 {
-    if down {
-        weighted_sum9(DOWN[n], values) as i32
-    } else {
-        weighted_sum9(UP[n], values) as i32
-    }
+    let s1 = weighted_sum9([12, 12, 12, 0, 0, 0, 0, 0, 0], values) as i32;
+    let s2 = weighted_sum9([0, 0, 0, 12, 12, 12, 0, 0, 0], values) as i32;
+    let s3 = weighted_sum9([0, 0, 0, 0, 0, 0, 12, 12, 12], values) as i32;
+    let u12 = weighted_sum9([24, 6, 6, 0, 0, 0, 0, 0, 0], values) as i32;
+    let u13 = weighted_sum9([18, 18, 0, 0, 0, 0, 0, 0, 0], values) as i32;
+    let u21 = weighted_sum9([0, 0, 0, 18, 18, 0, 0, 0, 0], values) as i32;
+    let u23 = weighted_sum9([0, 0, 0, 24, 6, 6, 0, 0, 0], values) as i32;
+    let u31 = weighted_sum9([0, 0, 0, 0, 0, 0, 24, 6, 6], values) as i32;
+    let u32 = weighted_sum9([0, 0, 0, 0, 0, 0, 18, 18, 0], values) as i32;
+    let v1 = weighted_sum9([24, 12, 0, 0, 0, 0, 0, 0, 0], values) as i32;
+    let v2 = weighted_sum9([0, 0, 0, 24, 12, 0, 0, 0, 0], values) as i32;
+    let v3 = weighted_sum9([0, 0, 0, 0, 0, 0, 24, 12, 0], values) as i32;
+    let r12 = weighted_sum9([12, 3, 3, 9, 9, 0, 0, 0, 0], values) as i32;
+    let r13 = weighted_sum9([9, 9, 0, 0, 0, 0, 12, 3, 3], values) as i32;
+    let r23 = weighted_sum9([0, 0, 0, 12, 3, 3, 9, 9, 0], values) as i32;
+    let m12 = weighted_sum9([12, 6, 0, 12, 6, 0, 0, 0, 0], values) as i32;
+    let m13 = weighted_sum9([12, 6, 0, 0, 0, 0, 12, 6, 0], values) as i32;
+    let m23 = weighted_sum9([0, 0, 0, 12, 6, 0, 12, 6, 0], values) as i32;
+    let z = weighted_sum9([8, 4, 0, 8, 4, 0, 8, 4, 0], values) as i32;
+    [
+        s1,
+        s2,
+        s3,
+        u12,
+        u13,
+        u21,
+        u23,
+        u31,
+        u32,
+        v1,
+        v2,
+        v3,
+        r12,
+        r13,
+        r23,
+        m12,
+        m13,
+        m23,
+        z,
+    ]
 }
 
-// Point n as x, y, z, from the control values in each coordinate.
-fn bezier_point(down: bool, n: usize, xs: [i32; 9], ys: [i32; 9], zs: [i32; 9]) -> [i32; 3]
-    requires { ⌜ (n < 19) × Within 16777216 xs × Within 16777216 ys × Within 16777216 zs ⌝ }
-    ensures { λ r. ⌜ r ≡ pointsFrom down xs ys zs n ⌝ }
-{
-    let x = ordinate(down, n, xs);
-    let y = ordinate(down, n, ys);
-    let z = ordinate(down, n, zs);
-    [x, y, z]
-}
-
-// The 57 numbers over the front of the output.
-fn write_points(down: bool, xs: [i32; 9], ys: [i32; 9], zs: [i32; 9], out: &mut [i32])
-    requires { ⌜ (57 ≤ length (now out)) × Within 16777216 xs × Within 16777216 ys × Within 16777216 zs ⌝ }
-    ensures { λ r. ⌜ now (out .exit) ≡ over (runs 19 (pointsFrom down xs ys zs)) (now (out .entry)) ⌝ }
+// The 57 numbers over the front of the output, from the 19 points in each coordinate.
+fn write_points(xs: [i32; 19], ys: [i32; 19], zs: [i32; 19], out: &mut [i32])
+    requires { ⌜ 57 ≤ length (now out) ⌝ }
+    ensures { λ r. ⌜ now (out .exit) ≡ over (runs 19 (threeAt xs ys zs)) (now (out .entry)) ⌝ }
 {
     let mut n = 0;
     while n < 19 {
-        let p = bezier_point(down, n, xs, ys, zs);
-        store_point(p, 3 * n, out);
+        let x = xs[n];
+        let y = ys[n];
+        let z = zs[n];
+        store_point([x, y, z], 3 * n, out);
         n += 1;
     }
 }
@@ -158,10 +138,10 @@ pub fn bezier_net(
     if refusal != 0 {
         return Answer::Refused(refusal);
     }
-    let c = load_triangle(net, w, i, j, down);
-    let xs = coordinate_values(c, 0);
-    let ys = coordinate_values(c, 1);
-    let zs = coordinate_values(c, 2);
-    write_points(down, xs, ys, zs, out);
+    let c = turn(load_triangle(net, w, i, j, down), down);
+    let xs = ordinates(coordinate_values(c, 0));
+    let ys = ordinates(coordinate_values(c, 1));
+    let zs = ordinates(coordinate_values(c, 2));
+    write_points(xs, ys, zs, out);
     Answer::Done
 }

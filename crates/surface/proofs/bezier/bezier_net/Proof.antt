@@ -1,12 +1,10 @@
 -- `surface::bezier::bezier_net` meets its contract.
-use Rattle.surface.specs.Evaluation.{pointsFrom}
-use Rattle.surface.specs.BezierNet.{controlsOf, controlList}
-use Rattle.net.specs.Net.{Triangle, triangleAt, field}
+use Rattle.surface.specs.Evaluation.{valuesIn, threeAt}
+use Rattle.net.specs.Net.{Triangle, triangleAt}
 use Rattle.exact.specs.WeightedSum.{Within}
 use Rattle.exact.specs.Filling.{over, runs}
 use lib.Dec.{lit<}
-use Rattle.surface.proofs.Corners.{values-within, loaded-values}
-use Rattle.surface.proofs.BezierNets.{GoodTriangle, good-triangle, points-of-net, accepted-output, refused-output}
+use Rattle.surface.proofs.BezierNets.{GoodTriangle, good-triangle, formed, formed-within, turned-values, pointsOf, points-of-net, accepted-output, refused-output}
 use Rattle.surface.specs.TurnedAway.{bezierRefusal}
 use lib.ListN.{length}
 use lib.IntN.{ℤ}
@@ -50,22 +48,23 @@ module _ (c : tie.Else1) where
   abbrev triangle : Triangle
   triangle = triangleAt i j down
 
-  -- the nine control values in coordinate x
-  abbrev values : ℕ → List ℤ
-  values x = controlList (controlsOf (field net w x) triangle)
+  within : (x : ℕ) → x < 3 → Within 16777216 (formed net w triangle x)
+  within = formed-within net w i j down (good .lies) (good .range)
 
-  within : (x : ℕ) → x < 3 → Within 16777216 (values x)
-  within = values-within net w i j down (good .lies) (good .range)
+-- what each call of `coordinate_values` and of `ordinates` gave
+module _ (c : tie.After-turn) where
+  abbrev at : tie.Else1
+  at = c .before .before
 
--- what each call of `coordinate_values` gave
-values₀ : (c : tie.After-coordinate-values) → c .coordinate-values .result ≡ values (c .before .before) 0
-values₀ c = loaded-values (net (c .before .before)) (w (c .before .before)) (triangle (c .before .before)) (c .before .load-triangle .ensures) 0 (c .coordinate-values .ensures)
+  value : (x : ℕ) {values : List ℤ} → values ≡ valuesIn (c .turn .result) x → values ≡ formed (net at) (w at) (triangle at) x
+  value = turned-values (net at) (w at) (triangle at) (c .before .load-triangle .ensures) (c .turn .ensures)
 
-values₁ : (c : tie.After-coordinate-values2) → c .coordinate-values2 .result ≡ values (c .before .before .before) 1
-values₁ c = loaded-values (net (c .before .before .before)) (w (c .before .before .before)) (triangle (c .before .before .before)) (c .before .before .load-triangle .ensures) 1 (c .coordinate-values2 .ensures)
+  small : (x : ℕ) → x < 3 → {values : List ℤ} → values ≡ valuesIn (c .turn .result) x → Within 16777216 values
+  small x k e = subst (Within 16777216) (sym (value x e)) (within at x k)
 
-values₂ : (c : tie.After-coordinate-values3) → c .coordinate-values3 .result ≡ values (c .before .before .before .before) 2
-values₂ c = loaded-values (net (c .before .before .before .before)) (w (c .before .before .before .before)) (triangle (c .before .before .before .before)) (c .before .before .before .load-triangle .ensures) 2 (c .coordinate-values3 .ensures)
+  points : (x : ℕ) {values numbers : List ℤ} → values ≡ valuesIn (c .turn .result) x → numbers ≡ pointsOf values →
+      numbers ≡ pointsOf (formed (net at) (w at) (triangle at) x)
+  points x e f = f ∙ ap pointsOf (value x e)
 
 bezier-refusal-requires : tie.Need-bezier-refusal-requires
 bezier-refusal-requires c κs = search needs
@@ -79,35 +78,44 @@ returns c = (
 load-triangle-requires : tie.Need-load-triangle-requires
 load-triangle-requires c κs = good c .lies
 
+turn-requires : tie.Need-turn-requires
+turn-requires c κs = search needs
+
 coordinate-values-requires : tie.Need-coordinate-values-requires
 coordinate-values-requires c κs = search needs
+
+ordinates-requires : tie.Need-ordinates-requires
+ordinates-requires c κs = small (c .before) 0 (lit< tt) (c .coordinate-values .ensures)
 
 coordinate-values-requires-2 : tie.Need-coordinate-values-requires-2
 coordinate-values-requires-2 c κs = search needs
 
+ordinates-requires-2 : tie.Need-ordinates-requires-2
+ordinates-requires-2 c κs = small (c .before .before .before) 1 (lit< tt) (c .coordinate-values2 .ensures)
+
 coordinate-values-requires-3 : tie.Need-coordinate-values-requires-3
 coordinate-values-requires-3 c κs = search needs
 
+ordinates-requires-3 : tie.Need-ordinates-requires-3
+ordinates-requires-3 c κs = small (c .before .before .before .before .before) 2 (lit< tt) (c .coordinate-values3 .ensures)
+
 write-points-requires : tie.Need-write-points-requires
-write-points-requires c κs =
-    let v = c .before in
-    let e = v .before .before .before .before in (
-      good e .room-enough,
-      subst (Within 16777216) (sym (values₀ (v .before .before))) (within e 0 (lit< tt)),
-      subst (Within 16777216) (sym (values₁ (v .before))) (within e 1 (lit< tt)),
-      subst (Within 16777216) (sym (values₂ v)) (within e 2 (lit< tt)),
-    )
+write-points-requires c κs = good (at (c .before .before .before .before .before .before .before)) .room-enough
 
 same-length : tie.Need-same-length
 same-length c = search needs
 
 returns-2 : tie.Need-returns-2
 returns-2 c =
-    let v = c .before .before .before in
-    let e = v .before .before .before .before in (
+    let o = c .before .before .before in
+    let t = o .before .before .before .before .before .before in
+    let e = at t in
+    let x = points t 0 (o .before .before .before .before .before .coordinate-values .ensures) (o .before .before .before .before .ordinates .ensures) in
+    let y = points t 1 (o .before .before .before .coordinate-values2 .ensures) (o .before .before .ordinates2 .ensures) in
+    let z = points t 2 (o .before .coordinate-values3 .ensures) (o .ordinates3 .ensures) in (
       sym (none e),
       c .before .write-points .ensures
-          ∙ (λ k. over (runs 19 (pointsFrom (down e) (values₀ (v .before .before) k) (values₁ (v .before) k) (values₂ v k))) (out e))
+          ∙ (λ k. over (runs 19 (threeAt (x k) (y k) (z k))) (out e))
           ∙ ap (λ (l : List ℤ). over l (out e)) (points-of-net (net e) (w e) (triangle e))
           ∙ accepted-output (net e) (w e) (h e) (i e) (j e) (down e) (out e) (none e),
     )
@@ -119,9 +127,13 @@ bezier-net-spec =
     bezier-refusal-requires
     returns
     load-triangle-requires
+    turn-requires
     coordinate-values-requires
+    ordinates-requires
     coordinate-values-requires-2
+    ordinates-requires-2
     coordinate-values-requires-3
+    ordinates-requires-3
     write-points-requires
     same-length
     returns-2)

@@ -1,31 +1,49 @@
 -- `surface::bezier::write_points` meets its contract: each turn stores one run of three numbers more.
-use native.Mathlib.Nat.{mul-comm}
-use lib.Seq.{sets, length-sets}
-use lib.IntN.{ℤ}
-use mathlib.Core.List.{List}
-use borrow.Author.Needs.{needs}
-use Rattle.surface.specs.Evaluation.{pointsFrom}
-use Rattle.exact.proofs.FillingLaws.{over-none, over-more, length-over}
+use Rattle.surface.specs.Evaluation.{threeAt}
+use Rattle.exact.proofs.SignedCode.{reads-back}
+use Rattle.exact.proofs.FillingLaws.{over-none, over-more}
 use Rattle.exact.specs.Filling.{over, runs}
-use lib.ListN.{length}
+use borrow.Author.Needs.{needs}
+use mir.Syntax.{w32}
+use mir.Val.{toZ, ofZ}
+use lib.Seq.{sets, length-sets}
+use lib.ListN.{length, getD}
+use lib.IntN.{ℤ, pos}
 use native.Mathlib.Omega.{arith}
-use Prim.Native.Nat.{ℕ, _-_, _≤_, _*_}
-use mathlib.Core.Path.{_≡_, refl, sym, ap, _∙_}
+use native.Mathlib.Nat.{mul-comm}
+use Prim.Native.Nat.{ℕ, _-_, _*_, _≤_}
+use mathlib.Core.List.{List, [], _∷_}
+use mathlib.Core.Path.{_≡_, refl, ap, _∙_}
 use Rattle.surface.proofs.bezier.write_points.Statement.{statement}
 use Rattle.surface.proofs.bezier.write_points.Tie as tie
 
 abbrev Inv-loop : tie.InvT-loop
-Inv-loop down xs ys zs out₀ n₀ out n =
-    (n ≤ 19) × (length out ≡ length out₀) × (out ≡ over (runs n (pointsFrom down xs ys zs)) out₀)
+Inv-loop out₀ xs ys zs n₀ out n =
+    (n ≤ 19) × (length out ≡ length out₀) × (out ≡ over (runs n (threeAt xs ys zs)) out₀)
 
 abbrev μ-loop : tie.MeasureT-loop
-μ-loop down xs ys zs out₀ n₀ out n = 19 - n
+μ-loop out₀ xs ys zs n₀ out n = 19 - n
 
 loop-holds : tie.Need-loop-holds Inv-loop μ-loop
 loop-holds c = (omega arith, refl, over-none _ _)
 
-bezier-point-requires : tie.Need-bezier-point-requires Inv-loop μ-loop
-bezier-point-requires c κs = search needs
+mul-x : tie.Need-mul-x Inv-loop μ-loop
+mul-x c = search needs
+
+array-copy-out-x : tie.Need-array-copy-out-x Inv-loop μ-loop
+array-copy-out-x c = search needs
+
+mul-y : tie.Need-mul-y Inv-loop μ-loop
+mul-y c = search needs
+
+array-copy-out-y : tie.Need-array-copy-out-y Inv-loop μ-loop
+array-copy-out-y c = search needs
+
+mul-z : tie.Need-mul-z Inv-loop μ-loop
+mul-z c = search needs
+
+array-copy-out-z : tie.Need-array-copy-out-z Inv-loop μ-loop
+array-copy-out-z c = search needs
 
 mul-store-point : tie.Need-mul-store-point Inv-loop μ-loop
 mul-store-point c = omega arith
@@ -41,19 +59,26 @@ loop-less c = search needs
 
 loop-again : tie.Need-loop-again Inv-loop μ-loop
 loop-again c =
-    let at = c .before .before .before .before .before in
+    let z = c .before .before .before in
+    let at = z .before .before .before .before in
     let a = at .before .args in
-    let f = pointsFrom (a .down) (a .xs) (a .ys) (a .zs) in
+    let f = threeAt (a .t1) (a .t2) (a .t3) in
     let old = a .out .now in
     let n = at .loop .n in
-    let point = c .before .before .before .bezier-point in
-    let store = c .before .store-point in (
+    let stored =
+    _∙_ {b = sets (at .loop .out) (3 * n) (toZ w32 (ofZ w32 (getD (a .t1) n (pos 0))) ∷ toZ w32 (ofZ w32 (getD (a .t2) n (pos 0))) ∷ toZ w32 (ofZ w32 (getD (a .t3) n (pos 0))) ∷ [])}
+    (c .before .store-point .ensures)
+    (λ t.
+    sets (at .loop .out) (3 * n)
+    (reads-back w32 (getD (a .t1) n (pos 0)) (z .before .before .x .given) t
+    ∷ reads-back w32 (getD (a .t2) n (pos 0)) (z .before .y .given) t
+    ∷ reads-back w32 (getD (a .t3) n (pos 0)) (z .z .given) t
+    ∷ [])) in (
       search needs,
-      ap length (store .ensures) ∙ length-sets (at .loop .out) (3 * n) (point .result) ∙ at .loop .inv .1,
-      store .ensures
-          ∙ ap (λ (l : List ℤ). sets l (3 * n) (point .result)) (at .loop .inv .2)
-          ∙ ap (λ (k : ℕ). sets (over (runs n f) old) k (point .result)) (mul-comm 3 n)
-          ∙ ap (λ (p : List ℤ). sets (over (runs n f) old) (n * 3) p) (point .ensures)
+      ap length stored ∙ length-sets (at .loop .out) (3 * n) (f n) ∙ at .loop .inv .1,
+      stored
+          ∙ ap (λ (l : List ℤ). sets l (3 * n) (f n)) (at .loop .inv .2)
+          ∙ ap (λ (k : ℕ). sets (over (runs n f) old) k (f n)) (mul-comm 3 n)
           ∙ over-more old n 3 f (λ k h. refl) (omega arith),
     )
 
@@ -63,9 +88,8 @@ same-length c = search needs
 returns : tie.Need-returns Inv-loop μ-loop
 returns c =
     let a = c .before .before .args in
-    let f = pointsFrom (a .down) (a .xs) (a .ys) (a .zs) in
     let all : c .before .loop .n ≡ 19 = omega arith in
-    c .before .loop .inv .2 ∙ ap (λ (n : ℕ). over (runs n f) (a .out .now)) all
+    c .before .loop .inv .2 ∙ ap (λ (n : ℕ). over (runs n (threeAt (a .t1) (a .t2) (a .t3))) (a .out .now)) all
 
 pub write-points-spec : {M : Type 1} → statement M
 write-points-spec =
@@ -74,7 +98,12 @@ write-points-spec =
     Inv-loop
     μ-loop
     loop-holds
-    bezier-point-requires
+    mul-x
+    array-copy-out-x
+    mul-y
+    array-copy-out-y
+    mul-z
+    array-copy-out-z
     mul-store-point
     store-point-requires
     add-n
