@@ -34,9 +34,9 @@ module _ {ℓ} {A : Type ℓ} where
   cond-false t x y e q = q ∙ ap (λ (b : Bool). cond b x y) (sym e)
 
 -- where nothing is refused, the first fault is not there, nor is any after it
-pub fault-none : (t : Bool) (n : ℕ) (fs : List Fault) → 0 < n → firstFault ((t, n) ∷ fs) ≡ 0 → (t ≡ false) × (firstFault fs ≡ 0)
-fault-none true n fs h e = absurd (omega (arith, e, h))
-fault-none false n fs h e = (refl, e)
+pub fault-none : (t : Bool) (n r : ℕ) → 0 < n → cond t n r ≡ 0 → (t ≡ false) × (r ≡ 0)
+fault-none true n r h e = absurd (omega (arith, e, h))
+fault-none false n r h e = (refl, e)
 
 -- where one of the first faults is there, those after them do not matter
 pub fault-before : (fs gs : List Fault) → (firstFault fs ≡ 0 → ⊥) → firstFault fs ≡ firstFault (fs ++ gs)

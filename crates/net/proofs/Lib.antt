@@ -2,3 +2,4 @@
 pub mod Faults
 pub mod Ranges
 pub mod Places
+pub mod Beyond

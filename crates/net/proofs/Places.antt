@@ -57,9 +57,9 @@ pub record GoodVertex (net : List ℤ) (w h i j : ℕ) : Type 0 where
 
 pub good-vertex : (net : List ℤ) (w h i j : ℕ) → vertexRefusal net w h i j ≡ 0 → GoodVertex net w h i j
 good-vertex net w h i j e =
-    let e₁ = fault-none (badSize w h) 1 ((noVertex w h i j, 6) ∷ (shortNet net w h, 2) ∷ []) (lit< tt) e in
-    let e₆ = fault-none (noVertex w h i j) 6 ((shortNet net w h, 2) ∷ []) (lit< tt) (e₁ .1) in
-    let e₂ = fault-none (shortNet net w h) 2 [] (lit< tt) (e₆ .1) in
+    let e₁ = fault-none (badSize w h) 1 _ (lit< tt) e in
+    let e₆ = fault-none (noVertex w h i j) 6 _ (lit< tt) (e₁ .1) in
+    let e₂ = fault-none (shortNet net w h) 2 _ (lit< tt) (e₆ .1) in
     let v = or-none _ _ (e₆ .0) in
     record {
       size = good-size w h (e₁ .0);
@@ -111,7 +111,7 @@ field-number net w v three (suc (suc zero)) h = ap (number net) (omega arith)
 field-number net w v k (suc (suc (suc x))) h = absurd (omega (arith, h))
 
 -- the last of the nine numbers is the ninth
-nine-numbers : (k : Index) (x : ℕ) → x < 3 → 3 * rank k + x < 9
+pub nine-numbers : (k : Index) (x : ℕ) → x < 3 → 3 * rank k + x < 9
 nine-numbers one x h = omega (arith, h)
 nine-numbers two x h = omega (arith, h)
 nine-numbers three x h = omega (arith, h)

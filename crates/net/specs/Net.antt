@@ -1,10 +1,10 @@
 -- Document 01, "The net": indices, steps, triangles, and how a lent net stores the control triangles of its vertices.
 use mathlib.Core.Path.{_≡_, refl}
 use mathlib.Core.Bool.{Bool, true, false}
-use mathlib.Core.List.{List, [], _∷_}
-use Prim.Native.Nat.{ℕ, _+_, _*_}
+use mathlib.Core.List.{List, [], _∷_, _++_}
+use Prim.Native.Nat.{ℕ, zero, suc, _+_, _*_}
 use lib.ListN.{getD, take, drop}
-use lib.IntN.{ℤ, pos, negsuc}
+use lib.IntN.{ℤ, pos, negsuc, _+ℤ_}
 
 -- 'Indices 1, 2, 3 run in a circle': of the steps, of the controls of a vertex, and of the corners of a triangle
 pub data Index : Type 0 where
@@ -113,3 +113,26 @@ entry c k x = getD (getD c (rank k) []) x (pos 0)
 -- the field of coordinate x that a stored net of width w holds
 abbrev pub field : List ℤ → ℕ → ℕ → Field
 field net w x v k = entry (controlTriangle net w v) k x
+
+-- worked cases: the steps add up to zero; the down triangle of cell (3, 5); a net of 4 by 3 has 108 numbers, and vertex (1, 2) of it begins at
+-- number 81; y of control 2 of vertex (1, 0) of a net of width 2 is its number 13
+steps-close :
+    (stepColumn one +ℤ stepColumn two +ℤ stepColumn three ≡ pos 0) × (stepRow one +ℤ stepRow two +ℤ stepRow three ≡ pos 0)
+steps-close = (refl, refl)
+
+down-corners :
+    (corner (triangleAt 3 5 true) one ≡ vertexAt 4 5)
+    × (corner (triangleAt 3 5 true) two ≡ vertexAt 3 6)
+    × (corner (triangleAt 3 5 true) three ≡ vertexAt 4 6)
+down-corners = (refl, refl, refl)
+
+four-by-three : (numbers 4 3 ≡ 108) × (start 4 (vertexAt 1 2) ≡ 81)
+four-by-three = (refl, refl)
+
+abbrev counted : ℕ → List ℤ
+counted zero = []
+counted (suc n) = counted n ++ pos n ∷ []
+
+second-control : field (counted 18) 2 1 (vertexAt 1 0) two ≡ pos 13
+unfolding controlTriangle controlPoint
+second-control = refl

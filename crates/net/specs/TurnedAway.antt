@@ -1,10 +1,10 @@
 -- Document 01, "Turned away": the rows that every call on nets shares, and the first fault of a list.
 use mathlib.Core.Path.{_≡_, refl}
 use mathlib.Core.Bool.{Bool, true, false, _||_, cond}
-use mathlib.Core.List.{List, [], _∷_}
-use Prim.Native.Nat.{ℕ, _+_, _*_}
+use mathlib.Core.List.{List, [], _∷_, _++_}
+use Prim.Native.Nat.{ℕ}
 use lib.Dec.{leb, ltb, eqb}
-use lib.ListN.{length}
+use lib.ListN.{length, replicate}
 use lib.IntN.{ℤ, pos, negsuc, natAbs}
 use Rattle.net.specs.Net.{vertexAt, numbers, vertexNumbers}
 
@@ -54,3 +54,25 @@ vertexRefusal net w h i j =
 unfoldable pub vertexPart : List ℤ → ℕ → ℕ → ℕ → ℕ → List ℤ
 vertexPart net w h i j =
     cond (accepted (vertexRefusal net w h i j)) (vertexNumbers net w (vertexAt i j)) []
+
+-- worked cases: document 01's examples of 1, 2 and 3, the limits that are accepted, a missing vertex of a short net, and a part
+examples :
+    (vertexRefusal [] 1 2 0 0 ≡ 1)
+    × (vertexRefusal (replicate 35 (pos 0)) 2 2 1 1 ≡ 2)
+    × (vertexRefusal (replicate 35 (pos 0)) 2 2 2 1 ≡ 6)
+    × (vertexRefusal (replicate 36 (pos 0)) 2 2 1 1 ≡ 0)
+    × (badSize 1025 1025 ≡ false)
+    × (badSize 1026 2 ≡ true)
+examples = (refl, refl, refl, refl, refl, refl)
+
+limits :
+    (beyond (pos 16777217) ≡ true) × (beyond (pos 16777216) ≡ false) × (beyond (negsuc 16777215) ≡ false) × (beyond (negsuc 16777216) ≡ true)
+limits = (refl, refl, refl, refl)
+
+last-part : vertexPart (replicate 27 (pos 0) ++ replicate 10 (pos 7)) 2 2 1 1 ≡ replicate 9 (pos 7)
+unfolding vertexPart
+last-part = refl
+
+no-part : vertexPart (replicate 37 (pos 7)) 2 2 1 2 ≡ []
+unfolding vertexPart
+no-part = refl

@@ -1,7 +1,7 @@
 -- What an accepted Bézier net is known by, and what a call leaves in its output.
 use mathlib.Core.Path.{_≡_, sym, ap, _∙_}
 use mathlib.Core.Bool.{Bool, false, cond}
-use mathlib.Core.List.{List, [], _∷_, map}
+use mathlib.Core.List.{List, map}
 use Prim.Native.Nat.{ℕ, _≤_, _<_}
 use lib.Dec.{ltb, lit<}
 use lib.IntN.{ℤ}
@@ -10,7 +10,7 @@ use borrow.Author.Tests.{ltb-false, ne-eqb}
 use Rattle.exact.specs.WeightedSum.{weightedSum, Within}
 use Rattle.exact.specs.Filling.{over, runs}
 use Rattle.net.specs.Net.{Triangle, triangleAt, field}
-use Rattle.net.specs.TurnedAway.{Fault, badSize, shortNet, accepted}
+use Rattle.net.specs.TurnedAway.{badSize, shortNet, accepted}
 use Rattle.net.proofs.Faults.{fault-none}
 use Rattle.surface.specs.BezierNet.{controlsOf, bezierPoints, bezierNumbers}
 use Rattle.surface.specs.TurnedAway.{noTriangle, triangleBeyond, bezierRefusal}
@@ -29,14 +29,11 @@ pub record GoodTriangle (net : List ℤ) (w i j : ℕ) (down : Bool) (room : ℕ
 pub good-triangle : (net : List ℤ) (w h i j : ℕ) (down : Bool) (room : ℕ) →
     bezierRefusal net w h i j down room ≡ 0 → GoodTriangle net w i j down room
 good-triangle net w h i j down room e =
-    let f₃ : List Fault = (triangleBeyond net w (triangleAt i j down), 3) ∷ [] in
-    let f₅ : List Fault = (ltb room 57, 5) ∷ f₃ in
-    let f₂ : List Fault = (shortNet net w h, 2) ∷ f₅ in
-    let e₁ = fault-none (badSize w h) 1 ((noTriangle w h i j, 6) ∷ f₂) (lit< tt) e in
-    let e₆ = fault-none (noTriangle w h i j) 6 f₂ (lit< tt) (e₁ .1) in
-    let e₂ = fault-none (shortNet net w h) 2 f₅ (lit< tt) (e₆ .1) in
-    let e₅ = fault-none (ltb room 57) 5 f₃ (lit< tt) (e₂ .1) in
-    let e₃ = fault-none (triangleBeyond net w (triangleAt i j down)) 3 [] (lit< tt) (e₅ .1) in
+    let e₁ = fault-none (badSize w h) 1 _ (lit< tt) e in
+    let e₆ = fault-none (noTriangle w h i j) 6 _ (lit< tt) (e₁ .1) in
+    let e₂ = fault-none (shortNet net w h) 2 _ (lit< tt) (e₆ .1) in
+    let e₅ = fault-none (ltb room 57) 5 _ (lit< tt) (e₂ .1) in
+    let e₃ = fault-none (triangleBeyond net w (triangleAt i j down)) 3 _ (lit< tt) (e₅ .1) in
     record {
       lies = in-net-triangle net w h i j (e₁ .0) (e₆ .0) (e₂ .0);
       room-enough = ltb-false room 57 (e₅ .0);

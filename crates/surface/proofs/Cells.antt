@@ -1,20 +1,21 @@
 -- Cells of places: where they lie, and what is left of a place in its cell.
-use mathlib.Core.Path.{_≡_, sym, subst, _∙_}
-use mathlib.Core.Bool.{Bool, false, cond}
+use mathlib.Core.Path.{_≡_, refl, sym, ap, subst, _∙_}
+use mathlib.Core.Bool.{Bool, true, false, cond}
 use mathlib.Core.List.{List}
-use Prim.Native.Nat.{ℕ, _+_, _-_, _*_, _≤_, _<_}
-use native.Mathlib.Omega.{arith}
+use Prim.Native.Nat.{ℕ, _+_, _-_, _*_, _/_, _≤_, _<_, min}
+use native.Mathlib.Nat.{le-refl, le-trans, mul-le-mul, mul-div-le, lt-mul-div-succ, mul-add, mul-one, min-le-left}
+use native.Mathlib.Omega.{arith, min-cases}
 use lib.Dec.{ltb}
 use lib.IntN.{ℤ}
 use lib.ListN.{length}
 use mir.Syntax.{w64}
 use mir.Val.{Fits}
-use borrow.Author.Tests.{ltb-false}
+use borrow.Author.Tests.{ltb-true, ltb-false}
 use Rattle.net.specs.Net.{Index, one, two, three, numbers}
 use Rattle.net.specs.TurnedAway.{badSize, shortNet}
 use Rattle.net.proofs.Faults.{or-none}
-use Rattle.net.proofs.Places.{GoodSize, good-size}
-use Rattle.surface.specs.SurfacePoint.{cell, rest, isDown, upShare, downShare, share}
+use Rattle.net.proofs.Places.{good-size}
+use Rattle.surface.specs.SurfacePoint.{cell, rest, isDown, upShare, downShare, share, chosen, LiesBy, LiesIn}
 use Rattle.surface.specs.TurnedAway.{noPlace}
 use Rattle.surface.specs.Evaluation.{InNet, Placed}
 use Rattle.surface.proofs.Corners.{in-net}
@@ -65,3 +66,32 @@ placed w h p q b ei ej e =
     (cond b (downShare 1024 (f 0) (g 0)) (upShare 1024 (f 0) (g 0))) k ≡ share 1024 w h p q k =
     λ k t. (cond (kind t) (downShare 1024 (f t) (g t)) (upShare 1024 (f t) (g t))) k in
     record { column = ei; row = ej; kind = kind; share-1 = share-of one; share-2 = share-of two; share-3 = share-of three }
+
+-- ---- at any edge count, a place of the grid lies in the triangle that is chosen for it
+
+cell-begins : (D n p : ℕ) → D * cell D n p ≤ p
+cell-begins D n p = le-trans (mul-le-mul (le-refl D) (min-le-left (p / D) (n - 2))) (mul-div-le p D)
+
+cell-ends : (D n p : ℕ) → 0 < D → 2 ≤ n → p ≤ D * (n - 1) → p ≤ D * cell D n p + D
+cell-ends D n p d k h = min-cases (p / D) (n - 2) (p ≤ D * cell D n p + D) inner last
+  where
+    inner : p / D ≤ n - 2 → min (p / D) (n - 2) ≡ p / D → p ≤ D * min (p / D) (n - 2) + D
+    inner a e = subst (λ (i : ℕ). p ≤ D * i + D) (sym e) (omega (arith, lt-mul-div-succ p d, mul-add D (p / D) 1, mul-one D))
+
+    last : n - 2 ≤ p / D → min (p / D) (n - 2) ≡ n - 2 → p ≤ D * min (p / D) (n - 2) + D
+    last a e =
+        let one-more : n - 1 ≡ n - 2 + 1 = omega (arith, k) in
+        subst (λ (i : ℕ). p ≤ D * i + D) (sym e) (omega (arith, h, ap (λ (i : ℕ). D * i) one-more, mul-add D (n - 2) 1, mul-one D))
+
+pub chosen-lies : (D w h p q : ℕ) → 0 < D → 2 ≤ w → 2 ≤ h → p ≤ D * (w - 1) → q ≤ D * (h - 1) → LiesIn D p q (chosen D w h p q)
+chosen-lies D w h p q d k l a b = by (isDown D (rest D w p) (rest D h q)) refl
+  where
+    by : (down : Bool) → isDown D (rest D w p) (rest D h q) ≡ down → LiesBy down D p q (cell D w p) (cell D h q)
+    by false e =
+        let f = ltb-false D (rest D w p + rest D h q) e in
+        (cell-begins D w p, cell-begins D h q, omega (arith, f))
+    by true e =
+        let f = ltb-true D (rest D w p + rest D h q) e in
+        let x = cell-begins D w p in
+        let y = cell-begins D h q in
+        (cell-ends D w p d k a, cell-ends D h q d l b, omega (arith, f, x, y))

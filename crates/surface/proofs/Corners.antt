@@ -1,12 +1,11 @@
 -- Corners of triangles: their neighbours by steps, and their places in storage.
-use mathlib.Core.Path.{_≡_, refl, ap, _∙_}
+use mathlib.Core.Path.{_≡_, refl}
 use mathlib.Core.Bool.{Bool, true, false, _||_}
 use mathlib.Core.List.{List, [], _∷_}
 use Prim.Native.Nat.{ℕ, _+_, _-_, _≤_, _<_}
 use native.Mathlib.Omega.{arith}
 use lib.Dec.{leb}
 use lib.IntN.{ℤ, pos, negsuc, natAbs, _+ℤ_, _-ℤ_}
-use Rattle.exact.specs.WeightedSum.{Within}
 use lib.ListN.{length}
 use borrow.Author.Tests.{leb-false, ltb-false}
 use Rattle.exact.proofs.Expressions.{var, lit, _⊕_, identity}
@@ -14,9 +13,9 @@ use Rattle.net.specs.Net.{Index, one, two, three, rank, next, previous, Triangl
 use Rattle.net.specs.TurnedAway.{badSize, shortNet, anyBeyond}
 use Rattle.net.proofs.Faults.{or-none}
 use Rattle.net.proofs.Places.{GoodSize, good-size, vertex-ends, field-size}
-use Rattle.surface.specs.BezierNet.{controlsOf, controlList, indexK, indexM, indexN}
+use Rattle.surface.specs.BezierNet.{controlsOf, indexK, indexM, indexN}
 use Rattle.surface.specs.TurnedAway.{noTriangle, triangleBeyond}
-use Rattle.surface.specs.Evaluation.{InNet, cornerControls, valuesIn}
+use Rattle.surface.specs.Evaluation.{InNet}
 
 -- both triangles of a cell of the grid lie in the net
 pub in-net : (net : List ℤ) {w h i j : ℕ} → GoodSize w h → i + 1 < w → j + 1 < h → numbers w h ≤ length net → InNet net w i j
@@ -55,23 +54,12 @@ corners-fine net w t e P = at P
     at two = or-none (anyBeyond (vertexNumbers net w (corner t two))) (anyBeyond (vertexNumbers net w (corner t three))) (or-none (anyBeyond (vertexNumbers net w (corner t one))) (others net w t) e .1) .0
     at three = or-none (anyBeyond (vertexNumbers net w (corner t two))) (anyBeyond (vertexNumbers net w (corner t three))) (or-none (anyBeyond (vertexNumbers net w (corner t one))) (others net w t) e .1) .1
 
--- and so its nine control values, each of them and as a list
+-- and so each of its nine control values
 pub value-size : (net : List ℤ) (w i j : ℕ) (down : Bool) → InNet net w i j → triangleBeyond net w (triangleAt i j down) ≡ false →
     (x : ℕ) → x < 3 → (P k : Index) → natAbs (controlsOf (field net w x) (triangleAt i j down) P k) ≤ 16777216
 value-size net w i j down l e x h P k =
     let t = triangleAt i j down in
     field-size net w (corner t P) (corners-fine net w t e P) (corner-ends net w i j l down P) k x h
-
-pub values-within : (net : List ℤ) (w i j : ℕ) (down : Bool) → InNet net w i j → triangleBeyond net w (triangleAt i j down) ≡ false →
-    (x : ℕ) → x < 3 → Within 16777216 (controlList (controlsOf (field net w x) (triangleAt i j down)))
-values-within net w i j down l e x h =
-    let v = value-size net w i j down l e x h in
-    (v one one, (v one two, (v one three, (v two one, (v two two, (v two three, (v three one, (v three two, (v three three, tt)))))))))
-
--- the nine values in a coordinate, from the loaded control triangles
-pub loaded-values : (net : List ℤ) (w : ℕ) (t : Triangle) {c : List (List (List ℤ))} → c ≡ cornerControls net w t →
-    (x : ℕ) {values : List ℤ} → values ≡ valuesIn c x → values ≡ controlList (controlsOf (field net w x) t)
-loaded-values net w t e x q = q ∙ ap (λ (c : List (List (List ℤ))). valuesIn c x) e
 
 -- 'one neighbour is P + ek, the other P - em; n is the third index': the next corner is P + ek and the previous one P - em, in both triangles
 back : (n : ℕ) → pos n ≡ pos (n + 1) +ℤ negsuc 0

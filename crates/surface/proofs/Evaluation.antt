@@ -7,7 +7,7 @@ use Prim.Native.Nat.{ℕ, _+_, _*_, _≤_, _<_, _^_}
 use native.Mathlib.Nat.{mul-le-mul}
 use native.Mathlib.Omega.{arith}
 use lib.Dec.{T, leb, leb→le, lit<}
-use lib.IntN.{ℤ, pos, natAbs, _+ℤ_, _*ℤ_}
+use lib.IntN.{ℤ, pos, natAbs}
 use lib.ListN.{length}
 use lib.Signed.{mag}
 use mir.Facts.{and-yes}
@@ -15,7 +15,7 @@ use mir.Syntax.{w64}
 use mir.Val.{toZ, ofZ}
 use Rattle.exact.specs.Rounding.{rounded}
 use Rattle.exact.specs.WeightedSum.{weightedSum, Summed, Within}
-use Rattle.exact.proofs.Expressions.{Expr, var, lit, _⊕_, _⊗_, value, identity}
+use Rattle.exact.proofs.Expressions.{Expr, var, lit, _⊕_, _⊗_, identity}
 use Rattle.exact.proofs.SignedCode.{reads-back}
 use Rattle.exact.proofs.WeightedSumLaws.{weightedSum-sym, sum-size, sizes, sum-sizes, sumFrom, sum-expression}
 use Rattle.exact.proofs.RoundingLaws.{rounded-size}

@@ -7,3 +7,4 @@ pub mod Orders
 pub mod Cells
 pub mod Evaluation
 pub mod SurfacePoints
+pub mod Beyond

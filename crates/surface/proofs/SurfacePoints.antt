@@ -5,12 +5,12 @@ use mathlib.Core.List.{List, [], _∷_, map}
 use Prim.Native.Nat.{ℕ, _+_, _-_, _*_, _≤_, _<_}
 use native.Mathlib.Omega.{arith}
 use lib.Dec.{ltb, lit<}
-use lib.IntN.{ℤ, pos, natAbs}
+use lib.IntN.{ℤ}
 use borrow.Author.Tests.{eq-eqb, ne-eqb, ltb-true, ltb-false}
 use Rattle.exact.specs.Rounding.{rounded}
 use Rattle.exact.specs.WeightedSum.{weightedSum, Within}
 use Rattle.net.specs.Net.{Index, one, two, three, rank, field}
-use Rattle.net.specs.TurnedAway.{Fault, badSize, shortNet, accepted}
+use Rattle.net.specs.TurnedAway.{badSize, shortNet, accepted}
 use Rattle.net.proofs.Faults.{cond-first, cond-false, fault-none, fault-before}
 use Rattle.surface.specs.BezierNet.{controlsOf}
 use Rattle.surface.specs.SurfacePoint.{Order, o123, o132, o213, o231, o312, o321, cornerP, cornerQ, cornerT, orderOf, chosen, share, gapA, gapB, gapG, spline, coordinate, surfacePoint, isDown, rest, upShare, downShare}
@@ -97,10 +97,9 @@ pub record GoodPlace (net : List ℤ) (w h p q : ℕ) : Type 0 where
 
 pub good-place : (net : List ℤ) (w h p q : ℕ) → placeRefusal net w h p q ≡ 0 → GoodPlace net w h p q
 good-place net w h p q e =
-    let f₂ : List Fault = (shortNet net w h, 2) ∷ [] in
-    let e₁ = fault-none (badSize w h) 1 ((noPlace w h p q, 6) ∷ f₂) (lit< tt) e in
-    let e₆ = fault-none (noPlace w h p q) 6 f₂ (lit< tt) (e₁ .1) in
-    let e₂ = fault-none (shortNet net w h) 2 [] (lit< tt) (e₆ .1) in
+    let e₁ = fault-none (badSize w h) 1 _ (lit< tt) e in
+    let e₆ = fault-none (noPlace w h p q) 6 _ (lit< tt) (e₁ .1) in
+    let e₂ = fault-none (shortNet net w h) 2 _ (lit< tt) (e₆ .1) in
     record { size = e₁ .0; place = e₆ .0; long = e₂ .0 }
 
 -- a place that 1, 6 or 2 refuses, and one that only 3 can refuse

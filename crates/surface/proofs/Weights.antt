@@ -2,7 +2,7 @@
 use mathlib.Core.Path.{_≡_, refl, sym, subst, _∙_}
 use mathlib.Core.Bool.{Bool, true, false}
 use mathlib.Core.List.{List, [], _∷_, map}
-use Prim.Native.Nat.{ℕ, _+_, _*_, _≤_, _<_, _^_}
+use Prim.Native.Nat.{_+_, _*_, _≤_, _<_, _^_}
 use native.Mathlib.Omega.{arith}
 use lib.Dec.{T, leb, leb→le}
 use lib.IntN.{ℤ, natAbs}
@@ -11,7 +11,7 @@ use mir.Facts.{toZ-ofZ}
 use mir.Syntax.{w32, w64}
 use mir.Val.{SFits, toZ, ofZ}
 use Rattle.exact.specs.WeightedSum.{weightedSum, Summed, Within}
-use Rattle.exact.proofs.Expressions.{Expr, var, lit, normal, value, identities}
+use Rattle.exact.proofs.Expressions.{Expr, var, lit, normal, identities}
 use Rattle.exact.proofs.SignedCode.{reads-back}
 use Rattle.exact.proofs.Sizes.{fits-of-size}
 use Rattle.exact.proofs.WeightedSumLaws.{sizes, sum-sizes}

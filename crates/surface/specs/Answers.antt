@@ -1,10 +1,11 @@
 -- Document 01's number and values for each case of each answer, and what the calls answer and leave in lent memory.
-use mathlib.Core.Bool.{Bool, cond}
+use mathlib.Core.Path.{_≡_, refl}
+use mathlib.Core.Bool.{Bool, true, false, cond}
 use mathlib.Core.List.{List, [], _∷_, map}
 use Prim.Native.Nat.{ℕ}
-use lib.IntN.{ℤ, pos}
+use lib.IntN.{ℤ, pos, negsuc}
 use lib.ListN.{length}
-use lib.Ieee.{Float, binary64, ofInt, div}
+use lib.Ieee.{Float, fin, binary64, ofInt, div}
 use Rattle.exact.specs.Filling.{over}
 use Rattle.net.specs.Net.{triangleAt}
 use Rattle.net.specs.TurnedAway.{accepted}
@@ -53,3 +54,12 @@ viewPoint net w h p q = map millimetres (surfacePoint net w h p q)
 unfoldable pub viewAnswer : List ℤ → ℕ → ℕ → ℕ → ℕ → ℕ × List Float
 viewAnswer net w h p q =
     (pointRefusal net w h p q, cond (accepted (pointRefusal net w h p q)) (viewPoint net w h p q) [])
+
+-- worked cases: 1,536 units are 1.5 mm, and -1 is -2 to the power -10 mm
+millimetres-of : (millimetres (pos 1536) ≡ fin false 3 (negsuc 0)) × (millimetres (negsuc 0) ≡ fin true 1 (negsuc 9))
+unfolding div ofInt
+millimetres-of = (refl, refl)
+
+accepted-and-refused :
+    (answerNumber answer.Done ≡ 0) × (answerNumber (answer.Refused 6) ≡ 6) × (pointTold (point.Refused 3) ≡ (3, []))
+accepted-and-refused = (refl, refl, refl)

@@ -4,8 +4,8 @@ use mathlib.Core.Path.{_≡_, refl}
 use mathlib.Core.Bool.{Bool, true, false, cond}
 use mathlib.Core.List.{List, [], _∷_}
 use Prim.Native.Nat.{ℕ}
-use lib.ListN.{getD}
-use lib.IntN.{ℤ, pos, negsuc, _+ℤ_, _*ℤ_}
+use lib.ListN.{getD, replicate}
+use lib.IntN.{ℤ, pos, _+ℤ_, _*ℤ_}
 use Rattle.exact.specs.Filling.{runs}
 use Rattle.net.specs.Net.{Index, one, two, three, next, previous, Triangle, corner, Field, field}
 
@@ -110,3 +110,14 @@ bezierPoint net w t n = bezierNumber net w t n 0 ∷ bezierNumber net w t n 1 �
 
 abbrev pub bezierNumbers : List ℤ → ℕ → Triangle → List ℤ
 bezierNumbers net w t = runs 19 (bezierPoint net w t)
+
+-- worked cases: in the up triangle of cell (0, 0), corner 1 = (0, 0) has (1, 0) = P + e1 and (0, 1) = P - e3, so k, m, n are 1, 3, 2; in the down
+-- triangle corner 1 = (1, 0) has (0, 1) = P + e2 and (1, 1) = P - e3. Controls that are all 5 have all points 5, times 36.
+first-corners :
+    (indexK false one ≡ one) × (indexM false one ≡ three) × (indexN false one ≡ two)
+    × (indexK true one ≡ two) × (indexM true one ≡ three) × (indexN true one ≡ one)
+first-corners = (refl, refl, refl, refl, refl, refl)
+
+constant-points : (bezierPoints false (λ P k. pos 5) ≡ replicate 19 (pos 180)) × (bezierPoints true (λ P k. pos 5) ≡ replicate 19 (pos 180))
+unfolding bezierPoints
+constant-points = (refl, refl)

@@ -1,9 +1,9 @@
 -- Document 01, "Surface point": the exact spline at any edge count D, and the surface point at edge count 1,024.
 use mathlib.Core.Path.{_≡_, refl}
-use mathlib.Core.Bool.{Bool, true, false, not, cond}
+use mathlib.Core.Bool.{Bool, true, false, cond}
 use mathlib.Core.List.{List, [], _∷_}
 use Prim.Native.Nat.{ℕ, _+_, _-_, _*_, _/_, _≤_, min}
-use lib.Dec.{leb, ltb}
+use lib.Dec.{leb, ltb, lit≤}
 use lib.IntN.{ℤ, pos, _+ℤ_, _*ℤ_}
 use Rattle.exact.specs.Rounding.{rounded}
 use Rattle.net.specs.Net.{Index, one, two, three, Triangle, triangleAt, Field, field}
@@ -131,3 +131,26 @@ LiesBy true = LiesDown
 
 abbrev pub LiesIn : ℕ → ℕ → ℕ → Triangle → Type 0
 LiesIn D p q t = LiesBy (t .down) D p q (t .column) (t .row)
+
+-- worked cases: the last place of a side of two lies in cell 0; place (700, 600) of a net of 2 by 2 lies in the down triangle, with shares 424, 324 and
+-- 276; equal shares stay in corner order; at a vertex the exact value is 36·1024² times s; place (1024, 0) lies in the up
+-- and in the down triangle of cell (0, 0), whose corner it is
+last-cell : (cell 1024 2 1024 ≡ 0) × (rest 1024 2 1024 ≡ 1024) × (cell 1024 3 1024 ≡ 1)
+last-cell = (refl, refl, refl)
+
+in-down :
+    (chosen 1024 2 2 700 600 ≡ triangleAt 0 0 true)
+    × (share 1024 2 2 700 600 one ≡ 424)
+    × (share 1024 2 2 700 600 two ≡ 324)
+    × (share 1024 2 2 700 600 three ≡ 276)
+in-down = (refl, refl, refl, refl)
+
+equal-shares : (orderOf (λ k. 3) ≡ o123) × (orderOf (upShare 10 4 4) ≡ o231) × (orderOf (upShare 10 2 4) ≡ o132)
+equal-shares = (refl, refl, refl)
+
+at-a-vertex : spline (λ v k. pos 7) 3 3 1024 1024 1024 ≡ pos 7 *ℤ pos 37748736
+unfolding spline
+at-a-vertex = refl
+
+two-triangles : LiesIn 1024 1024 0 (triangleAt 0 0 false) × LiesIn 1024 1024 0 (triangleAt 0 0 true)
+two-triangles = ((lit≤ tt, lit≤ tt, lit≤ tt), (lit≤ tt, lit≤ tt, lit≤ tt))

@@ -1,10 +1,12 @@
 -- Document 01, "Turned away": the rows of Bézier nets and surface points, in the order 1, 6, 2, 5, 3.
-use mathlib.Core.Bool.{Bool, _||_}
+use mathlib.Core.Path.{_≡_, refl}
+use mathlib.Core.Bool.{Bool, true, false, _||_}
 use mathlib.Core.List.{List, [], _∷_}
-use Prim.Native.Nat.{ℕ, _+_, _-_, _*_}
+use Prim.Native.Nat.{ℕ, _-_, _*_}
 use lib.Dec.{leb, ltb}
-use lib.IntN.{ℤ}
-use Rattle.net.specs.Net.{Index, one, two, three, Triangle, triangleAt, corner, vertexNumbers}
+use lib.IntN.{ℤ, pos}
+use lib.ListN.{replicate, set}
+use Rattle.net.specs.Net.{one, two, three, Triangle, triangleAt, corner, vertexNumbers}
 use Rattle.net.specs.TurnedAway.{firstFault, badSize, shortNet, anyBeyond}
 use Rattle.surface.specs.SurfacePoint.{chosen}
 
@@ -40,3 +42,17 @@ pointRefusal net w h p q =
     ∷ (shortNet net w h, 2)
     ∷ (triangleBeyond net w (chosen 1024 w h p q), 3)
     ∷ [])
+
+-- worked cases: document 01's example of 6, the accepted place p = 1,024 at w = 2, and a number beyond the range at a vertex of the triangle and of none
+abbrev zeros : List ℤ
+zeros = replicate 36 (pos 0)
+
+examples :
+    (pointRefusal zeros 2 2 1025 0 ≡ 6)
+    × (pointRefusal zeros 2 2 1024 0 ≡ 0)
+    × (pointRefusal (set zeros 0 (pos 16777217)) 2 2 0 0 ≡ 3)
+    × (pointRefusal (set zeros 35 (pos 16777217)) 2 2 0 0 ≡ 0)
+    × (bezierRefusal (set zeros 35 (pos 16777217)) 2 2 0 0 true 57 ≡ 3)
+    × (bezierRefusal (set zeros 35 (pos 16777217)) 2 2 0 0 true 56 ≡ 5)
+    × (bezierRefusal zeros 2 2 1 0 false 57 ≡ 6)
+examples = (refl, refl, refl, refl, refl, refl, refl)

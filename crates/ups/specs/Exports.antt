@@ -5,11 +5,9 @@ use mathlib.Core.List.{List, [], _∷_}
 use Prim.Native.Nat.{ℕ}
 use lib.Dec.{ltb, eqb}
 use lib.IntN.{ℤ}
-use lib.ListN.{length}
 use Rattle.exact.specs.Filling.{over}
 use Rattle.net.specs.Net.{triangleAt}
 use Rattle.net.specs.TurnedAway.{firstFault, badSize, shortNet, accepted}
-use Rattle.surface.specs.BezierNet.{bezierNumbers}
 use Rattle.surface.specs.SurfacePoint.{chosen}
 use Rattle.surface.specs.TurnedAway.{noTriangle, noPlace, triangleBeyond}
 

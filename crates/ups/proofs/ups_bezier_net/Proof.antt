@@ -4,7 +4,7 @@ use Rattle.surface.specs.Answers.{answerNumber}
 use Rattle.ups.proofs.Exports.{no-kind, bezier-outcome}
 use Rattle.net.proofs.Faults.{cond-true}
 use borrow.Author.Tests.{lt-ltb, le-ltb}
-use mathlib.Core.Path.{_≡_, refl, sym, ap, _∙_}
+use mathlib.Core.Path.{refl, sym, ap, _∙_}
 use borrow.Author.Needs.{needs}
 use Rattle.ups.proofs.ups_bezier_net.Statement.{statement}
 use Rattle.ups.proofs.ups_bezier_net.Tie as tie

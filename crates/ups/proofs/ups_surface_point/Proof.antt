@@ -11,7 +11,7 @@ use Rattle.surface.specs.Answers.{pointTold, pointAnswer}
 use Rattle.surface.specs.SurfacePoint.{surfacePoint}
 use borrow.Author.Tests.{lt-ltb, le-ltb}
 use mathlib.Core.Bool.{true, false}
-use mathlib.Core.Path.{_≡_, refl, sym, ap, _∙_}
+use mathlib.Core.Path.{refl, sym, ap, _∙_}
 use borrow.Author.Needs.{needs}
 use Rattle.ups.proofs.ups_surface_point.Statement.{statement}
 use Rattle.ups.proofs.ups_surface_point.Tie as tie

@@ -1,6 +1,5 @@
 -- `net::sizes::bad_side` meets its contract.
 use mathlib.Core.Path.{refl}
-use lib.Dec.{ltb}
 use borrow.Author.Tests.{lt-ltb, le-ltb}
 use Rattle.net.proofs.Faults.{or-yes, or-no}
 use Rattle.net.proofs.sizes.bad_side.Statement.{statement}

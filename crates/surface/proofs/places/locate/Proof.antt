@@ -2,7 +2,6 @@
 use Rattle.surface.proofs.Cells.{in-cells, placed, left-at, sum-fits, left-over}
 use Rattle.net.proofs.Places.{good-size}
 use borrow.Author.Tests.{lt-ltb, le-ltb}
-use native.Mathlib.Omega.{arith}
 use mathlib.Core.Bool.{true, false}
 use borrow.Author.Needs.{needs}
 use Rattle.surface.proofs.places.locate.Statement.{statement}

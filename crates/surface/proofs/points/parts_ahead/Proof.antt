@@ -1,6 +1,6 @@
 -- `surface::points::parts_ahead` meets its contract.
 use Rattle.surface.proofs.Evaluation.{part, none}
-use mathlib.Core.List.{List, [], _∷_}
+use mathlib.Core.List.{[], _∷_}
 use borrow.Author.Needs.{needs}
 use Rattle.surface.proofs.points.parts_ahead.Statement.{statement}
 use Rattle.surface.proofs.points.parts_ahead.Tie as tie

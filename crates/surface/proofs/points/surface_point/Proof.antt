@@ -10,7 +10,6 @@ use lib.IntN.{ℤ}
 use native.Mathlib.Omega.{arith}
 use Prim.Native.Nat.{ℕ, _≤_}
 use mathlib.Core.List.{List}
-use mathlib.Core.Bool.{Bool, false}
 use mathlib.Core.Path.{_≡_, refl, sym, subst, _∙_, subst₂, ap}
 use borrow.Author.Needs.{needs}
 use Rattle.surface.proofs.points.surface_point.Statement.{statement}

@@ -7,8 +7,8 @@ use lib.Signed.{mag}
 use lib.Ieee.{Float}
 use lib.IntN.{ℤ}
 use Prim.Native.Nat.{_<_, _^_}
-use Rattle.surface.specs.Answers.{pointTold, viewAnswer, millimetres}
-use mathlib.Core.List.{List, [], _∷_, map}
+use Rattle.surface.specs.Answers.{pointTold, millimetres}
+use mathlib.Core.List.{[], _∷_}
 use mathlib.Core.Path.{_≡_, sym, ap, _∙_}
 use borrow.Author.Needs.{needs}
 use Rattle.surface.proofs.points.view_point.Statement.{statement}

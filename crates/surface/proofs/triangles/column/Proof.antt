@@ -1,6 +1,5 @@
 -- `surface::triangles::column` meets its contract.
 use mathlib.Core.List.{[], _∷_}
-use lib.IntN.{ℤ}
 use mir.Syntax.{w32}
 use borrow.Author.Needs.{needs}
 use Rattle.exact.proofs.SignedCode.{reads-back}

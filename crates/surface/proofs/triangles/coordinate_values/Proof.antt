@@ -7,9 +7,8 @@ use Prim.Native.Nat.{ℕ, _<_, _^_}
 use Rattle.exact.proofs.SignedCode.{reads-back}
 use mathlib.Core.List.{List, [], _∷_}
 use mir.Syntax.{w32}
-use mir.Facts.{toZ-ofZ}
-use mathlib.Core.Path.{refl, _≡_, ap, _∙_}
-use borrow.Author.Needs.{needs, sfits-of}
+use mathlib.Core.Path.{_≡_, ap, _∙_}
+use borrow.Author.Needs.{needs}
 use Rattle.surface.proofs.triangles.coordinate_values.Statement.{statement}
 use Rattle.surface.proofs.triangles.coordinate_values.Tie as tie
 
