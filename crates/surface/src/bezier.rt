@@ -26,45 +26,32 @@ fn ordinates(values: [i32; 9]) -> [i32; 19]
     requires { ⌜ Within 16777216 values ⌝ }
     ensures { λ r. ⌜ r ≡ map (λ row. weightedSum row values) bezierRows ⌝ }
 {
-    let s1 = weighted_sum9([12, 12, 12, 0, 0, 0, 0, 0, 0], values) as i32;
-    let s2 = weighted_sum9([0, 0, 0, 12, 12, 12, 0, 0, 0], values) as i32;
-    let s3 = weighted_sum9([0, 0, 0, 0, 0, 0, 12, 12, 12], values) as i32;
-    let u12 = weighted_sum9([24, 6, 6, 0, 0, 0, 0, 0, 0], values) as i32;
-    let u13 = weighted_sum9([18, 18, 0, 0, 0, 0, 0, 0, 0], values) as i32;
-    let u21 = weighted_sum9([0, 0, 0, 18, 18, 0, 0, 0, 0], values) as i32;
-    let u23 = weighted_sum9([0, 0, 0, 24, 6, 6, 0, 0, 0], values) as i32;
-    let u31 = weighted_sum9([0, 0, 0, 0, 0, 0, 24, 6, 6], values) as i32;
-    let u32 = weighted_sum9([0, 0, 0, 0, 0, 0, 18, 18, 0], values) as i32;
-    let v1 = weighted_sum9([24, 12, 0, 0, 0, 0, 0, 0, 0], values) as i32;
-    let v2 = weighted_sum9([0, 0, 0, 24, 12, 0, 0, 0, 0], values) as i32;
-    let v3 = weighted_sum9([0, 0, 0, 0, 0, 0, 24, 12, 0], values) as i32;
-    let r12 = weighted_sum9([12, 3, 3, 9, 9, 0, 0, 0, 0], values) as i32;
-    let r13 = weighted_sum9([9, 9, 0, 0, 0, 0, 12, 3, 3], values) as i32;
-    let r23 = weighted_sum9([0, 0, 0, 12, 3, 3, 9, 9, 0], values) as i32;
-    let m12 = weighted_sum9([12, 6, 0, 12, 6, 0, 0, 0, 0], values) as i32;
-    let m13 = weighted_sum9([12, 6, 0, 0, 0, 0, 12, 6, 0], values) as i32;
-    let m23 = weighted_sum9([0, 0, 0, 12, 6, 0, 12, 6, 0], values) as i32;
-    let z = weighted_sum9([8, 4, 0, 8, 4, 0, 8, 4, 0], values) as i32;
     [
-        s1,
-        s2,
-        s3,
-        u12,
-        u13,
-        u21,
-        u23,
-        u31,
-        u32,
-        v1,
-        v2,
-        v3,
-        r12,
-        r13,
-        r23,
-        m12,
-        m13,
-        m23,
-        z,
+        // s1 s2 s3
+        weighted_sum9([12, 12, 12, 0, 0, 0, 0, 0, 0], values) as i32,
+        weighted_sum9([0, 0, 0, 12, 12, 12, 0, 0, 0], values) as i32,
+        weighted_sum9([0, 0, 0, 0, 0, 0, 12, 12, 12], values) as i32,
+        // u12 u13 u21 u23 u31 u32
+        weighted_sum9([24, 6, 6, 0, 0, 0, 0, 0, 0], values) as i32,
+        weighted_sum9([18, 18, 0, 0, 0, 0, 0, 0, 0], values) as i32,
+        weighted_sum9([0, 0, 0, 18, 18, 0, 0, 0, 0], values) as i32,
+        weighted_sum9([0, 0, 0, 24, 6, 6, 0, 0, 0], values) as i32,
+        weighted_sum9([0, 0, 0, 0, 0, 0, 24, 6, 6], values) as i32,
+        weighted_sum9([0, 0, 0, 0, 0, 0, 18, 18, 0], values) as i32,
+        // v1 v2 v3
+        weighted_sum9([24, 12, 0, 0, 0, 0, 0, 0, 0], values) as i32,
+        weighted_sum9([0, 0, 0, 24, 12, 0, 0, 0, 0], values) as i32,
+        weighted_sum9([0, 0, 0, 0, 0, 0, 24, 12, 0], values) as i32,
+        // r12 r13 r23
+        weighted_sum9([12, 3, 3, 9, 9, 0, 0, 0, 0], values) as i32,
+        weighted_sum9([9, 9, 0, 0, 0, 0, 12, 3, 3], values) as i32,
+        weighted_sum9([0, 0, 0, 12, 3, 3, 9, 9, 0], values) as i32,
+        // m12 m13 m23
+        weighted_sum9([12, 6, 0, 12, 6, 0, 0, 0, 0], values) as i32,
+        weighted_sum9([12, 6, 0, 0, 0, 0, 12, 6, 0], values) as i32,
+        weighted_sum9([0, 0, 0, 12, 6, 0, 12, 6, 0], values) as i32,
+        // z
+        weighted_sum9([8, 4, 0, 8, 4, 0, 8, 4, 0], values) as i32,
     ]
 }
 
