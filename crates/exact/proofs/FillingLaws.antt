@@ -7,10 +7,10 @@ use Prim.Native.Nat.{ℕ, zero, suc, _+_, _*_, _-_, _<_, _≤_}
 use native.Mathlib.Nat.{add-zero, zero-add, add-suc, suc-add, suc-mul, zero-mul}
 use native.Mathlib.Numerals.{add-one}
 use native.Mathlib.Omega.{arith}
+use native.Mathlib.Decide.{decLt}
 use lib.ListN.{length, take, drop, getD, set, length-append, length-drop, List·getD-append}
 use lib.Seq.{take-suc, take-all, sets, sets-eq, take-at, drop-at, getD-append-add, drop-append-add, drop-drop}
 use lib.Arith.{digits-lt}
-use native.Mathlib.Decide.{decLt}
 use Rattle.exact.specs.Filling.{over, runs}
 
 module _ {ℓ} {A : Type ℓ} where

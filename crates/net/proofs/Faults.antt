@@ -3,8 +3,8 @@ use mathlib.Core.Path.{_≡_, refl, sym, ap, subst, _∙_}
 use mathlib.Core.Bool.{Bool, true, false, _||_, cond}
 use mathlib.Core.List.{List, [], _∷_, _++_}
 use Prim.Native.Nat.{ℕ, _<_}
-use lib.Dec.{T}
 use native.Mathlib.Omega.{arith}
+use lib.Dec.{T}
 use Rattle.net.specs.TurnedAway.{Fault, firstFault}
 
 -- `a || b` from a alone, and from b where a fails

@@ -5,12 +5,12 @@ use mathlib.Core.List.{List, [], _∷_}
 use Prim.Native.Nat.{ℕ, zero, suc, _+_, _*_, _≤_, _<_}
 use native.Mathlib.Nat.{mul-le-mul, mul-comm}
 use native.Mathlib.Omega.{arith}
+use native.Mathlib.Numerals.{unary-clauses}
 use lib.Arith.{digits-lt}
 use lib.Dec.{ltb, lit<}
 use lib.IntN.{ℤ, pos, natAbs}
 use lib.ListN.{length, getD, set, drop, length-take, length-drop}
 use lib.Seq.{sets, getD-take, getD-drop}
-use native.Mathlib.Numerals.{unary-clauses}
 use borrow.Author.Tests.{ltb-false, leb-false, ne-eqb}
 use Rattle.exact.specs.Filling.{runs}
 use Rattle.exact.proofs.FillingLaws.{array-elements}

@@ -1,8 +1,8 @@
 -- `ups::store_view` meets its contract.
-use Rattle.exact.proofs.FillingLaws.{sets-over}
-use lib.ListN.{length-set}
 use native.Mathlib.Omega.{arith}
+use lib.ListN.{length-set}
 use borrow.Author.Needs.{needs}
+use Rattle.exact.proofs.FillingLaws.{sets-over}
 use Rattle.ups.proofs.store_view.Statement.{statement}
 use Rattle.ups.proofs.store_view.Tie as tie
 

@@ -1,11 +1,11 @@
 -- `ups::ups_bezier_net` meets its contract.
+use mathlib.Core.Path.{refl, sym, ap, _∙_}
 use lib.ListN.{length}
+use borrow.Author.Tests.{lt-ltb, le-ltb}
+use borrow.Author.Needs.{needs}
+use Rattle.net.proofs.Faults.{cond-true}
 use Rattle.surface.specs.Answers.{answerNumber}
 use Rattle.ups.proofs.Exports.{no-kind, bezier-outcome}
-use Rattle.net.proofs.Faults.{cond-true}
-use borrow.Author.Tests.{lt-ltb, le-ltb}
-use mathlib.Core.Path.{refl, sym, ap, _∙_}
-use borrow.Author.Needs.{needs}
 use Rattle.ups.proofs.ups_bezier_net.Statement.{statement}
 use Rattle.ups.proofs.ups_bezier_net.Tie as tie
 

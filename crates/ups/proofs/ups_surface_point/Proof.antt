@@ -1,18 +1,18 @@
 -- `ups::ups_surface_point` meets its contract.
+use mathlib.Core.List.{List, [], _∷_}
+use mathlib.Core.Bool.{true, false}
+use mathlib.Core.Path.{refl, sym, ap, _∙_}
+use lib.ListN.{length, set}
+use lib.IntN.{ℤ}
+use mir.Syntax.{w32}
+use borrow.Author.Tests.{lt-ltb, le-ltb}
+use borrow.Author.Needs.{needs}
 use Rattle.exact.proofs.SignedCode.{reads-back}
 use Rattle.exact.proofs.FillingLaws.{sets-over}
 use Rattle.exact.specs.Filling.{over}
-use mir.Syntax.{w32}
-use lib.ListN.{length, set}
-use lib.IntN.{ℤ}
-use mathlib.Core.List.{List, [], _∷_}
-use Rattle.ups.proofs.Exports.{answered, not-accepted, point-refused, point-accepted}
 use Rattle.surface.specs.Answers.{pointTold, pointAnswer}
 use Rattle.surface.specs.SurfacePoint.{surfacePoint}
-use borrow.Author.Tests.{lt-ltb, le-ltb}
-use mathlib.Core.Bool.{true, false}
-use mathlib.Core.Path.{refl, sym, ap, _∙_}
-use borrow.Author.Needs.{needs}
+use Rattle.ups.proofs.Exports.{answered, not-accepted, point-refused, point-accepted}
 use Rattle.ups.proofs.ups_surface_point.Statement.{statement}
 use Rattle.ups.proofs.ups_surface_point.Tie as tie
 

@@ -1,14 +1,14 @@
 -- `ups::ups_view_point` meets its contract.
-use Rattle.ups.proofs.Exports.{answered, not-accepted, point-refused, point-accepted}
-use Rattle.surface.specs.Answers.{viewTold, viewPoint, viewAnswer}
-use Rattle.exact.specs.Filling.{over}
-use lib.ListN.{length}
-use lib.Ieee.{Float}
-use borrow.Author.Tests.{lt-ltb, le-ltb}
 use mathlib.Core.List.{List}
 use mathlib.Core.Bool.{true, false}
 use mathlib.Core.Path.{refl, sym, ap, _∙_}
+use lib.ListN.{length}
+use lib.Ieee.{Float}
+use borrow.Author.Tests.{lt-ltb, le-ltb}
 use borrow.Author.Needs.{needs}
+use Rattle.exact.specs.Filling.{over}
+use Rattle.surface.specs.Answers.{viewTold, viewPoint, viewAnswer}
+use Rattle.ups.proofs.Exports.{answered, not-accepted, point-refused, point-accepted}
 use Rattle.ups.proofs.ups_view_point.Statement.{statement}
 use Rattle.ups.proofs.ups_view_point.Tie as tie
 

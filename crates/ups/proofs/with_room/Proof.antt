@@ -1,7 +1,7 @@
 -- `ups::with_room` meets its contract.
-use Rattle.net.proofs.Faults.{or-yes, or-no, cond-first, cond-true, cond-false}
-use borrow.Author.Tests.{lt-ltb, le-ltb, eq-eqb, ne-eqb}
 use mathlib.Core.Path.{refl, sym}
+use borrow.Author.Tests.{lt-ltb, le-ltb, eq-eqb, ne-eqb}
+use Rattle.net.proofs.Faults.{or-yes, or-no, cond-first, cond-true, cond-false}
 use Rattle.ups.proofs.with_room.Statement.{statement}
 use Rattle.ups.proofs.with_room.Tie as tie
 

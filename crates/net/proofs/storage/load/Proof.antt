@@ -1,5 +1,5 @@
-use Rattle.net.specs.Net.{controlTriangle}
 use borrow.Author.Needs.{needs}
+use Rattle.net.specs.Net.{controlTriangle}
 use Rattle.net.proofs.storage.load.Statement.{statement}
 use Rattle.net.proofs.storage.load.Tie as tie
 

@@ -1,5 +1,5 @@
-use Rattle.net.specs.Net.{controlPoint}
 use borrow.Author.Needs.{needs}
+use Rattle.net.specs.Net.{controlPoint}
 use Rattle.net.proofs.storage.load_point.Statement.{statement}
 use Rattle.net.proofs.storage.load_point.Tie as tie
 

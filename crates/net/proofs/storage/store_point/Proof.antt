@@ -1,13 +1,13 @@
 -- `net::storage::store_point` meets its contract.
-use Rattle.net.proofs.Places.{stored}
-use Rattle.exact.proofs.SignedCode.{reads-back}
-use mir.Syntax.{w32}
+use mathlib.Core.Path.{_∙_}
+use Prim.Native.Nat.{_+_}
+use native.Mathlib.Omega.{arith}
 use lib.ListN.{getD, set, length-set}
 use lib.IntN.{pos}
-use native.Mathlib.Omega.{arith}
-use Prim.Native.Nat.{_+_}
-use mathlib.Core.Path.{_∙_}
+use mir.Syntax.{w32}
 use borrow.Author.Needs.{needs}
+use Rattle.exact.proofs.SignedCode.{reads-back}
+use Rattle.net.proofs.Places.{stored}
 use Rattle.net.proofs.storage.store_point.Statement.{statement}
 use Rattle.net.proofs.storage.store_point.Tie as tie
 

@@ -1,18 +1,18 @@
 -- `surface::bezier::bezier_net` meets its contract.
-use Rattle.surface.specs.Evaluation.{valuesIn, threeAt}
-use Rattle.net.specs.Net.{Triangle, triangleAt}
-use Rattle.exact.specs.WeightedSum.{Within}
-use Rattle.exact.specs.Filling.{over, runs}
-use lib.Dec.{lit<}
-use Rattle.surface.proofs.BezierNets.{GoodTriangle, good-triangle, formed, formed-within, turned-values, pointsOf, points-of-net, accepted-output, refused-output}
-use Rattle.surface.specs.TurnedAway.{bezierRefusal}
-use lib.ListN.{length}
-use lib.IntN.{ℤ}
-use Prim.Native.Nat.{ℕ, _<_}
 use mathlib.Core.List.{List}
 use mathlib.Core.Bool.{Bool}
 use mathlib.Core.Path.{_≡_, sym, ap, _∙_, subst}
+use Prim.Native.Nat.{ℕ, _<_}
+use lib.Dec.{lit<}
+use lib.ListN.{length}
+use lib.IntN.{ℤ}
 use borrow.Author.Needs.{needs}
+use Rattle.exact.specs.WeightedSum.{Within}
+use Rattle.exact.specs.Filling.{over, runs}
+use Rattle.net.specs.Net.{Triangle, triangleAt}
+use Rattle.surface.specs.Evaluation.{valuesIn, threeAt}
+use Rattle.surface.specs.TurnedAway.{bezierRefusal}
+use Rattle.surface.proofs.BezierNets.{GoodTriangle, good-triangle, formed, formed-within, turned-values, pointsOf, points-of-net, accepted-output, refused-output}
 use Rattle.surface.proofs.bezier.bezier_net.Statement.{statement}
 use Rattle.surface.proofs.bezier.bezier_net.Tie as tie
 

@@ -1,12 +1,12 @@
 -- `surface::bezier::bezier_refusal` meets its contract: each branch is the first fault that is there.
-use Rattle.surface.proofs.Corners.{in-net-triangle}
-use Rattle.net.proofs.Faults.{cond-true, cond-false}
-use Rattle.surface.specs.TurnedAway.{noTriangle}
-use Rattle.net.specs.TurnedAway.{badSize, shortNet}
-use borrow.Author.Tests.{lt-ltb, le-ltb}
 use mathlib.Core.Bool.{false}
 use mathlib.Core.Path.{_≡_, refl, sym, _∙_}
+use borrow.Author.Tests.{lt-ltb, le-ltb}
 use borrow.Author.Needs.{needs}
+use Rattle.net.proofs.Faults.{cond-true, cond-false}
+use Rattle.net.specs.TurnedAway.{badSize, shortNet}
+use Rattle.surface.specs.TurnedAway.{noTriangle}
+use Rattle.surface.proofs.Corners.{in-net-triangle}
 use Rattle.surface.proofs.bezier.bezier_refusal.Statement.{statement}
 use Rattle.surface.proofs.bezier.bezier_refusal.Tie as tie
 

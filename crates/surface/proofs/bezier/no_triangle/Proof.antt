@@ -1,9 +1,9 @@
 -- `surface::bezier::no_triangle` meets its contract.
+use mathlib.Core.Path.{refl}
 use native.Mathlib.Omega.{arith}
+use borrow.Author.Tests.{le-leb, lt-leb}
 use Rattle.net.proofs.Places.{good-size}
 use Rattle.net.proofs.Faults.{or-yes, or-no}
-use borrow.Author.Tests.{le-leb, lt-leb}
-use mathlib.Core.Path.{refl}
 use Rattle.surface.proofs.bezier.no_triangle.Statement.{statement}
 use Rattle.surface.proofs.bezier.no_triangle.Tie as tie
 

@@ -1,7 +1,7 @@
 -- `surface::bezier::ordinates` meets its contract: the weights of each row add up to 36, so each point fits.
-use Rattle.surface.proofs.Weights.{row-fits, row-reads}
 use mathlib.Core.List.{[], _∷_}
 use borrow.Author.Needs.{needs}
+use Rattle.surface.proofs.Weights.{row-fits, row-reads}
 use Rattle.surface.proofs.bezier.ordinates.Statement.{statement}
 use Rattle.surface.proofs.bezier.ordinates.Tie as tie
 

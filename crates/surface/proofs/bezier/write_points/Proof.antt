@@ -1,19 +1,19 @@
 -- `surface::bezier::write_points` meets its contract: each turn stores one run of three numbers more.
-use Rattle.surface.specs.Evaluation.{threeAt}
-use Rattle.exact.proofs.SignedCode.{reads-back}
-use Rattle.exact.proofs.FillingLaws.{over-none, over-more}
-use Rattle.exact.specs.Filling.{over, runs}
-use borrow.Author.Needs.{needs}
-use mir.Syntax.{w32}
-use mir.Val.{toZ, ofZ}
+use mathlib.Core.List.{List, [], _∷_}
+use mathlib.Core.Path.{_≡_, refl, ap, _∙_}
+use Prim.Native.Nat.{ℕ, _-_, _*_, _≤_}
+use native.Mathlib.Omega.{arith}
+use native.Mathlib.Nat.{mul-comm}
 use lib.Seq.{sets, length-sets}
 use lib.ListN.{length, getD}
 use lib.IntN.{ℤ, pos}
-use native.Mathlib.Omega.{arith}
-use native.Mathlib.Nat.{mul-comm}
-use Prim.Native.Nat.{ℕ, _-_, _*_, _≤_}
-use mathlib.Core.List.{List, [], _∷_}
-use mathlib.Core.Path.{_≡_, refl, ap, _∙_}
+use mir.Syntax.{w32}
+use mir.Val.{toZ, ofZ}
+use borrow.Author.Needs.{needs}
+use Rattle.exact.proofs.SignedCode.{reads-back}
+use Rattle.exact.proofs.FillingLaws.{over-none, over-more}
+use Rattle.exact.specs.Filling.{over, runs}
+use Rattle.surface.specs.Evaluation.{threeAt}
 use Rattle.surface.proofs.bezier.write_points.Statement.{statement}
 use Rattle.surface.proofs.bezier.write_points.Tie as tie
 

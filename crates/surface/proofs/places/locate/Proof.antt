@@ -1,9 +1,9 @@
 -- `surface::places::locate` meets its contract.
-use Rattle.surface.proofs.Cells.{in-cells, placed, left-at, sum-fits, left-over}
-use Rattle.net.proofs.Places.{good-size}
-use borrow.Author.Tests.{lt-ltb, le-ltb}
 use mathlib.Core.Bool.{true, false}
+use borrow.Author.Tests.{lt-ltb, le-ltb}
 use borrow.Author.Needs.{needs}
+use Rattle.net.proofs.Places.{good-size}
+use Rattle.surface.proofs.Cells.{in-cells, placed, left-at, sum-fits, left-over}
 use Rattle.surface.proofs.places.locate.Statement.{statement}
 use Rattle.surface.proofs.places.locate.Tie as tie
 

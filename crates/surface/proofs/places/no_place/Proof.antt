@@ -1,9 +1,9 @@
 -- `surface::places::no_place` meets its contract.
+use mathlib.Core.Path.{refl}
 use native.Mathlib.Omega.{arith}
+use borrow.Author.Tests.{lt-ltb, le-ltb}
 use Rattle.net.proofs.Places.{good-size}
 use Rattle.net.proofs.Faults.{or-yes, or-no}
-use borrow.Author.Tests.{lt-ltb, le-ltb}
-use mathlib.Core.Path.{refl}
 use Rattle.surface.proofs.places.no_place.Statement.{statement}
 use Rattle.surface.proofs.places.no_place.Tie as tie
 

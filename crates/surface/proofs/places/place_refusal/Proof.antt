@@ -1,9 +1,9 @@
 -- `surface::places::place_refusal` meets its contract: each branch is the first fault that is there.
-use Rattle.net.proofs.Faults.{cond-true, cond-false}
-use Rattle.net.specs.TurnedAway.{badSize}
 use mathlib.Core.Bool.{false}
 use mathlib.Core.Path.{_≡_, refl, sym, _∙_}
 use borrow.Author.Needs.{needs}
+use Rattle.net.proofs.Faults.{cond-true, cond-false}
+use Rattle.net.specs.TurnedAway.{badSize}
 use Rattle.surface.proofs.places.place_refusal.Statement.{statement}
 use Rattle.surface.proofs.places.place_refusal.Tie as tie
 

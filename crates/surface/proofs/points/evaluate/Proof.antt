@@ -1,15 +1,15 @@
 -- `surface::points::evaluate` meets its contract.
-use Rattle.surface.proofs.Evaluation.{parts-within}
+use mathlib.Core.Path.{_≡_, sym, subst, _∙_}
+use Prim.Native.Nat.{_<_, _^_}
+use lib.Signed.{mag}
+use lib.IntN.{ℤ}
+use mir.Val.{toZ, ofZ}
+use mir.Syntax.{w32}
+use borrow.Author.Needs.{needs}
 use Rattle.exact.proofs.SignedCode.{reads-back}
 use Rattle.exact.specs.WeightedSum.{weightedSum, Within}
 use Rattle.exact.specs.Rounding.{rounded}
-use mir.Val.{toZ, ofZ}
-use mir.Syntax.{w32}
-use lib.Signed.{mag}
-use lib.IntN.{ℤ}
-use Prim.Native.Nat.{_<_, _^_}
-use mathlib.Core.Path.{_≡_, sym, subst, _∙_}
-use borrow.Author.Needs.{needs}
+use Rattle.surface.proofs.Evaluation.{parts-within}
 use Rattle.surface.proofs.points.evaluate.Statement.{statement}
 use Rattle.surface.proofs.points.evaluate.Tie as tie
 

@@ -1,8 +1,8 @@
 -- `surface::points::millimetres_of` meets its contract: 1024.0 is the double of 1,024.
-use mir.Facts.{toZ-ofZ}
+use mathlib.Core.Path.{ap}
 use lib.Ieee.{binary64, div, ofInt, ofBits}
 use lib.IntN.{ℤ}
-use mathlib.Core.Path.{ap}
+use mir.Facts.{toZ-ofZ}
 use borrow.Author.Needs.{needs}
 use Rattle.surface.proofs.points.millimetres_of.Statement.{statement}
 use Rattle.surface.proofs.points.millimetres_of.Tie as tie

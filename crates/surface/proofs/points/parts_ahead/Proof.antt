@@ -1,7 +1,7 @@
 -- `surface::points::parts_ahead` meets its contract.
-use Rattle.surface.proofs.Evaluation.{part, none}
 use mathlib.Core.List.{[], _∷_}
 use borrow.Author.Needs.{needs}
+use Rattle.surface.proofs.Evaluation.{part, none}
 use Rattle.surface.proofs.points.parts_ahead.Statement.{statement}
 use Rattle.surface.proofs.points.parts_ahead.Tie as tie
 

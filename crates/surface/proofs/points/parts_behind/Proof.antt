@@ -1,7 +1,7 @@
 -- `surface::points::parts_behind` meets its contract.
-use Rattle.surface.proofs.Evaluation.{part, none}
 use mathlib.Core.List.{[], _∷_}
 use borrow.Author.Needs.{needs}
+use Rattle.surface.proofs.Evaluation.{part, none}
 use Rattle.surface.proofs.points.parts_behind.Statement.{statement}
 use Rattle.surface.proofs.points.parts_behind.Tie as tie
 

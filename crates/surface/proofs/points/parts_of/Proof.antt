@@ -1,11 +1,11 @@
 -- `surface::points::parts_of` meets its contract.
-use Rattle.surface.specs.Evaluation.{partRows, parts}
-use Rattle.exact.specs.WeightedSum.{weightedSum}
-use lib.IntN.{ℤ}
 use mathlib.Core.List.{List, map}
 use mathlib.Core.Bool.{Bool, true, false}
 use mathlib.Core.Path.{sym, ap, _∙_}
+use lib.IntN.{ℤ}
 use borrow.Author.Needs.{needs}
+use Rattle.exact.specs.WeightedSum.{weightedSum}
+use Rattle.surface.specs.Evaluation.{partRows, parts}
 use Rattle.surface.proofs.points.parts_of.Statement.{statement}
 use Rattle.surface.proofs.points.parts_of.Tie as tie
 

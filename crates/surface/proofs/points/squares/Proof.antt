@@ -1,15 +1,15 @@
 -- `surface::points::squares` meets its contract.
-use Rattle.exact.proofs.Sizes.{fits-of-size}
+use mathlib.Core.List.{[], _∷_}
+use mathlib.Core.Path.{_≡_}
+use Prim.Native.Nat.{ℕ, _*_, _≤_}
+use native.Mathlib.Omega.{arith}
+use native.Mathlib.Nat.{le-refl, le-trans, mul-le-mul}
+use lib.IntN.{pos}
+use lib.Dec.{lit≤}
 use mir.Val.{Fits, SFits, toZ}
 use mir.Syntax.{w32, w64}
 use mir.Facts.{toZ-pos}
-use lib.IntN.{pos}
-use lib.Dec.{lit≤}
-use native.Mathlib.Omega.{arith}
-use native.Mathlib.Nat.{le-refl, le-trans, mul-le-mul}
-use Prim.Native.Nat.{ℕ, _*_, _≤_}
-use mathlib.Core.List.{[], _∷_}
-use mathlib.Core.Path.{_≡_}
+use Rattle.exact.proofs.Sizes.{fits-of-size}
 use Rattle.surface.proofs.points.squares.Statement.{statement}
 use Rattle.surface.proofs.points.squares.Tie as tie
 

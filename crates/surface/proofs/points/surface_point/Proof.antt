@@ -1,17 +1,17 @@
 -- `surface::points::surface_point` meets its contract.
-use Rattle.surface.proofs.SurfacePoints.{GoodPlace, good-place, refused-place, range-refusal, refused-point, accepted-point, share-small, in-order-of, evaluable, evaluated-coordinate, below-three}
-use Rattle.surface.proofs.Cells.{in-net-place}
+use mathlib.Core.List.{List}
+use mathlib.Core.Path.{_≡_, refl, sym, subst, _∙_, subst₂, ap}
+use Prim.Native.Nat.{ℕ, _≤_}
+use native.Mathlib.Omega.{arith}
+use lib.IntN.{ℤ}
+use borrow.Author.Needs.{needs}
+use Rattle.net.proofs.Faults.{cond-true, cond-false}
+use Rattle.net.specs.Net.{one, two, three, triangleAt, Index, Triangle}
 use Rattle.surface.specs.Evaluation.{InNet, InOrder, cornerControls, Evaluable, turned, arranged, evaluated}
 use Rattle.surface.specs.TurnedAway.{triangleBeyond}
 use Rattle.surface.specs.SurfacePoint.{chosen, share, orderOf, cornerP, cornerQ, cornerT}
-use Rattle.net.proofs.Faults.{cond-true, cond-false}
-use Rattle.net.specs.Net.{one, two, three, triangleAt, Index, Triangle}
-use lib.IntN.{ℤ}
-use native.Mathlib.Omega.{arith}
-use Prim.Native.Nat.{ℕ, _≤_}
-use mathlib.Core.List.{List}
-use mathlib.Core.Path.{_≡_, refl, sym, subst, _∙_, subst₂, ap}
-use borrow.Author.Needs.{needs}
+use Rattle.surface.proofs.SurfacePoints.{GoodPlace, good-place, refused-place, range-refusal, refused-point, accepted-point, share-small, in-order-of, evaluable, evaluated-coordinate, below-three}
+use Rattle.surface.proofs.Cells.{in-net-place}
 use Rattle.surface.proofs.points.surface_point.Statement.{statement}
 use Rattle.surface.proofs.points.surface_point.Tie as tie
 

@@ -1,16 +1,16 @@
 -- `surface::points::view_point` meets its contract.
-use Rattle.surface.proofs.SurfacePoints.{viewed}
-use Rattle.exact.proofs.SignedCode.{reads-back}
-use mir.Val.{toZ, ofZ}
-use mir.Syntax.{w32}
+use mathlib.Core.List.{[], _∷_}
+use mathlib.Core.Path.{_≡_, sym, ap, _∙_}
+use Prim.Native.Nat.{_<_, _^_}
 use lib.Signed.{mag}
 use lib.Ieee.{Float}
 use lib.IntN.{ℤ}
-use Prim.Native.Nat.{_<_, _^_}
-use Rattle.surface.specs.Answers.{pointTold, millimetres}
-use mathlib.Core.List.{[], _∷_}
-use mathlib.Core.Path.{_≡_, sym, ap, _∙_}
+use mir.Val.{toZ, ofZ}
+use mir.Syntax.{w32}
 use borrow.Author.Needs.{needs}
+use Rattle.exact.proofs.SignedCode.{reads-back}
+use Rattle.surface.specs.Answers.{pointTold, millimetres}
+use Rattle.surface.proofs.SurfacePoints.{viewed}
 use Rattle.surface.proofs.points.view_point.Statement.{statement}
 use Rattle.surface.proofs.points.view_point.Tie as tie
 

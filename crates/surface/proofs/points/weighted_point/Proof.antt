@@ -1,14 +1,14 @@
 -- `surface::points::weighted_point` meets its contract: the mean is exact, and small enough for an i32.
-use Rattle.surface.proofs.Evaluation.{point-small}
-use Rattle.exact.proofs.WeightedSumLaws.{within-more}
-use Rattle.exact.proofs.Sizes.{fits-of-size}
-use Rattle.exact.proofs.SignedCode.{reads-back}
-use borrow.Author.Needs.{needs}
+use mathlib.Core.Path.{sym, subst, _∙_}
+use lib.Dec.{lit<, lit≤}
 use mir.Val.{SFits, toZ, ofZ}
 use mir.Syntax.{w32, w64}
 use mir.Facts.{toZ-ofZ}
-use lib.Dec.{lit<, lit≤}
-use mathlib.Core.Path.{sym, subst, _∙_}
+use borrow.Author.Needs.{needs}
+use Rattle.exact.proofs.WeightedSumLaws.{within-more}
+use Rattle.exact.proofs.Sizes.{fits-of-size}
+use Rattle.exact.proofs.SignedCode.{reads-back}
+use Rattle.surface.proofs.Evaluation.{point-small}
 use Rattle.surface.proofs.points.weighted_point.Statement.{statement}
 use Rattle.surface.proofs.points.weighted_point.Tie as tie
 

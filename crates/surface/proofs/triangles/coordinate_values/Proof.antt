@@ -1,14 +1,14 @@
 -- `surface::triangles::coordinate_values` meets its contract.
-use mir.Val.{toZ, ofZ}
+use mathlib.Core.List.{List, [], _∷_}
+use mathlib.Core.Path.{_≡_, ap, _∙_}
+use Prim.Native.Nat.{ℕ, _<_, _^_}
 use lib.Signed.{mag}
 use lib.ListN.{getD}
 use lib.IntN.{ℤ, pos}
-use Prim.Native.Nat.{ℕ, _<_, _^_}
-use Rattle.exact.proofs.SignedCode.{reads-back}
-use mathlib.Core.List.{List, [], _∷_}
+use mir.Val.{toZ, ofZ}
 use mir.Syntax.{w32}
-use mathlib.Core.Path.{_≡_, ap, _∙_}
 use borrow.Author.Needs.{needs}
+use Rattle.exact.proofs.SignedCode.{reads-back}
 use Rattle.surface.proofs.triangles.coordinate_values.Statement.{statement}
 use Rattle.surface.proofs.triangles.coordinate_values.Tie as tie
 

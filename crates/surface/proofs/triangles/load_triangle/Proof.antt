@@ -1,9 +1,9 @@
 -- `surface::triangles::load_triangle` meets its contract.
-use Rattle.surface.specs.Evaluation.{cornerControls}
-use Rattle.net.specs.Net.{triangleAt}
 use mathlib.Core.Bool.{Bool}
 use mathlib.Core.Path.{sym, ap, _∙_}
 use borrow.Author.Needs.{needs}
+use Rattle.net.specs.Net.{triangleAt}
+use Rattle.surface.specs.Evaluation.{cornerControls}
 use Rattle.surface.proofs.triangles.load_triangle.Statement.{statement}
 use Rattle.surface.proofs.triangles.load_triangle.Tie as tie
 

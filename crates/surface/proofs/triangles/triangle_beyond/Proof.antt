@@ -1,9 +1,9 @@
 -- `surface::triangles::triangle_beyond` meets its contract.
-use Rattle.surface.specs.TurnedAway.{triangleBeyond}
-use Rattle.net.specs.Net.{triangleAt}
 use mathlib.Core.Bool.{Bool}
 use mathlib.Core.Path.{sym, ap, _∙_}
 use borrow.Author.Needs.{needs}
+use Rattle.net.specs.Net.{triangleAt}
+use Rattle.surface.specs.TurnedAway.{triangleBeyond}
 use Rattle.surface.proofs.triangles.triangle_beyond.Statement.{statement}
 use Rattle.surface.proofs.triangles.triangle_beyond.Tie as tie
 

@@ -1,9 +1,9 @@
 -- `surface::triangles::turn` meets its contract.
-use Rattle.surface.specs.Evaluation.{turned}
 use mathlib.Core.List.{[], _∷_}
 use mathlib.Core.Bool.{Bool}
 use mathlib.Core.Path.{sym, ap, _∙_}
 use borrow.Author.Needs.{needs}
+use Rattle.surface.specs.Evaluation.{turned}
 use Rattle.surface.proofs.triangles.turn.Statement.{statement}
 use Rattle.surface.proofs.triangles.turn.Tie as tie
 

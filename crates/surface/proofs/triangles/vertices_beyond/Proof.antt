@@ -1,7 +1,7 @@
 -- `surface::triangles::vertices_beyond` meets its contract.
-use Rattle.net.proofs.Faults.{or-yes, or-no}
 use mathlib.Core.Path.{sym, _∙_}
 use borrow.Author.Needs.{needs}
+use Rattle.net.proofs.Faults.{or-yes, or-no}
 use Rattle.surface.proofs.triangles.vertices_beyond.Statement.{statement}
 use Rattle.surface.proofs.triangles.vertices_beyond.Tie as tie
 
