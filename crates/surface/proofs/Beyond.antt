@@ -95,7 +95,7 @@ cut-bezier-output net w h i j down out =
 
 -- ---- surface points and the viewer's points
 
-place-in-grid : (w h p q : ℕ) → badSize w h ≡ false → noPlace w h p q ≡ false → InGrid w h (chosen 1024 w h p q)
+place-in-grid : (w h p q : ℕ) → badSize w h ≡ false → noPlace 1024 w h p q ≡ false → InGrid w h (chosen 1024 w h p q)
 place-in-grid w h p q e f =
     let k = in-cells w h p q e f in
     record { column = k .0 .inside; row = k .1 .inside }
@@ -103,11 +103,11 @@ place-in-grid w h p q e f =
 place-grid-of : (net : List ℤ) (w h p q : ℕ) → pointRefusal net w h p q ≡ 0 → InGrid w h (chosen 1024 w h p q)
 place-grid-of net w h p q e =
     let e₁ = fault-none (badSize w h) 1 _ (lit< tt) e in
-    place-in-grid w h p q (e₁ .0) (fault-none (noPlace w h p q) 6 _ (lit< tt) (e₁ .1) .0)
+    place-in-grid w h p q (e₁ .0) (fault-none (noPlace 1024 w h p q) 6 _ (lit< tt) (e₁ .1) .0)
 
 pub cut-point-refusal : (net : List ℤ) (w h p q : ℕ) → pointRefusal net w h p q ≡ pointRefusal (cut net w h) w h p q
 cut-point-refusal net w h p q =
-    cond-else (badSize w h) 1 (λ e₁. cond-else (noPlace w h p q) 6 (λ e₆.
+    cond-else (badSize w h) 1 (λ e₁. cond-else (noPlace 1024 w h p q) 6 (λ e₆.
     cond-else (shortNet net w h) 2 (λ e₂.
     ap (λ (b : Bool). cond b 3 0)
     (cut-triangle net w h (chosen 1024 w h p q) (place-in-grid w h p q e₁ e₆) (ltb-false (length net) (numbers w h) e₂)))

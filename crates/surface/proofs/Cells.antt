@@ -15,7 +15,7 @@ use Rattle.net.specs.Net.{Index, one, two, three, numbers}
 use Rattle.net.specs.TurnedAway.{badSize, shortNet}
 use Rattle.net.proofs.Faults.{or-none}
 use Rattle.net.proofs.Places.{good-size}
-use Rattle.surface.specs.SurfacePoint.{cell, rest, isDown, upShare, downShare, share, chosen, LiesBy, LiesIn}
+use Rattle.surface.specs.SurfacePoint.{cell, rest, isDown, upShare, downShare, share, OnGrid, chosen, LiesBy, LiesIn}
 use Rattle.surface.specs.TurnedAway.{noPlace}
 use Rattle.surface.specs.Evaluation.{InNet, Placed}
 use Rattle.surface.proofs.Corners.{in-net}
@@ -29,15 +29,21 @@ pub record InCell (n p : ℕ) : Type 0 where
 in-cell : (n p : ℕ) → 2 ≤ n → n ≤ 1025 → p ≤ 1024 * (n - 1) → InCell n p
 in-cell n p a b h = record { inside = omega arith; small = omega arith; begins = omega arith; left = omega arith }
 
+-- a place that is not refused is on the grid
+pub on-grid : (D w h p q : ℕ) → noPlace D w h p q ≡ false → OnGrid D w h p q
+on-grid D w h p q e =
+    let g = or-none (ltb (D * (w - 1)) p) (ltb (D * (h - 1)) q) e in
+    (ltb-false (D * (w - 1)) p (g .0), ltb-false (D * (h - 1)) q (g .1))
+
 -- both coordinates of a place of the grid
-pub in-cells : (w h p q : ℕ) → badSize w h ≡ false → noPlace w h p q ≡ false → InCell w p × InCell h q
+pub in-cells : (w h p q : ℕ) → badSize w h ≡ false → noPlace 1024 w h p q ≡ false → InCell w p × InCell h q
 in-cells w h p q e f =
     let s = good-size w h e in
-    let g = or-none (ltb (1024 * (w - 1)) p) (ltb (1024 * (h - 1)) q) f in
-    (in-cell w p (s .wide) (s .narrow) (ltb-false (1024 * (w - 1)) p (g .0)), in-cell h q (s .high) (s .low) (ltb-false (1024 * (h - 1)) q (g .1)))
+    let g = on-grid 1024 w h p q f in
+    (in-cell w p (s .wide) (s .narrow) (g .0), in-cell h q (s .high) (s .low) (g .1))
 
 -- both triangles of the cell of a place of the grid lie in the net
-pub in-net-place : (net : List ℤ) (w h p q : ℕ) → badSize w h ≡ false → noPlace w h p q ≡ false → shortNet net w h ≡ false →
+pub in-net-place : (net : List ℤ) (w h p q : ℕ) → badSize w h ≡ false → noPlace 1024 w h p q ≡ false → shortNet net w h ≡ false →
     InNet net w (cell 1024 w p) (cell 1024 h q)
 in-net-place net w h p q e₁ e₆ e₂ =
     let k = in-cells w h p q e₁ e₆ in
@@ -83,8 +89,8 @@ cell-ends D n p d k h = min-cases (p / D) (n - 2) (p ≤ D * cell D n p + D) inn
         let one-more : n - 1 ≡ n - 2 + 1 = omega (arith, k) in
         subst (λ (i : ℕ). p ≤ D * i + D) (sym e) (omega (arith, h, ap (λ (i : ℕ). D * i) one-more, mul-add D (n - 2) 1, mul-one D))
 
-pub chosen-lies : (D w h p q : ℕ) → 0 < D → 2 ≤ w → 2 ≤ h → p ≤ D * (w - 1) → q ≤ D * (h - 1) → LiesIn D p q (chosen D w h p q)
-chosen-lies D w h p q d k l a b = by (isDown D (rest D w p) (rest D h q)) refl
+pub chosen-lies : (D w h p q : ℕ) → 0 < D → 2 ≤ w → 2 ≤ h → OnGrid D w h p q → LiesIn D p q (chosen D w h p q)
+chosen-lies D w h p q d k l g = by (isDown D (rest D w p) (rest D h q)) refl
   where
     by : (down : Bool) → isDown D (rest D w p) (rest D h q) ≡ down → LiesBy down D p q (cell D w p) (cell D h q)
     by false e =
@@ -94,4 +100,4 @@ chosen-lies D w h p q d k l a b = by (isDown D (rest D w p) (rest D h q)) refl
         let f = ltb-true D (rest D w p + rest D h q) e in
         let x = cell-begins D w p in
         let y = cell-begins D h q in
-        (cell-ends D w p d k a, cell-ends D h q d l b, omega (arith, f, x, y))
+        (cell-ends D w p d k (g .0), cell-ends D h q d l (g .1), omega (arith, f, x, y))

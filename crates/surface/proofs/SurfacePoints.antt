@@ -92,13 +92,13 @@ viewed net w h p q e = (λ t. (e t .0, map millimetres (e t .1))) ∙ (λ t. (po
 -- what is known where 1, 6 and 2 do not refuse
 pub record GoodPlace (net : List ℤ) (w h p q : ℕ) : Type 0 where
   pub size : badSize w h ≡ false
-  pub place : noPlace w h p q ≡ false
+  pub place : noPlace 1024 w h p q ≡ false
   pub long : shortNet net w h ≡ false
 
 pub good-place : (net : List ℤ) (w h p q : ℕ) → placeRefusal net w h p q ≡ 0 → GoodPlace net w h p q
 good-place net w h p q e =
     let e₁ = fault-none (badSize w h) 1 _ (lit< tt) e in
-    let e₆ = fault-none (noPlace w h p q) 6 _ (lit< tt) (e₁ .1) in
+    let e₆ = fault-none (noPlace 1024 w h p q) 6 _ (lit< tt) (e₁ .1) in
     let e₂ = fault-none (shortNet net w h) 2 _ (lit< tt) (e₆ .1) in
     record { size = e₁ .0; place = e₆ .0; long = e₂ .0 }
 
@@ -106,7 +106,7 @@ good-place net w h p q e =
 pub refused-place : (net : List ℤ) (w h p q : ℕ) → (placeRefusal net w h p q ≡ 0 → ⊥) → placeRefusal net w h p q ≡ pointRefusal net w h p q
 refused-place net w h p q k =
     fault-before
-    ((badSize w h, 1) ∷ (noPlace w h p q, 6) ∷ (shortNet net w h, 2) ∷ [])
+    ((badSize w h, 1) ∷ (noPlace 1024 w h p q, 6) ∷ (shortNet net w h, 2) ∷ [])
     ((triangleBeyond net w (chosen 1024 w h p q), 3) ∷ [])
     k
 
@@ -131,12 +131,12 @@ shares-at : (b : Bool) (f g : ℕ) → f ≤ 1024 → g ≤ 1024 → ltb 1024 (f
 shares-at true f g a b e = omega (arith, a, b, ltb-true 1024 (f + g) e)
 shares-at false f g a b e = omega (arith, ltb-false 1024 (f + g) e)
 
-pub share-small : (w h p q : ℕ) → badSize w h ≡ false → noPlace w h p q ≡ false → (k : Index) → share 1024 w h p q k ≤ 1024
+pub share-small : (w h p q : ℕ) → badSize w h ≡ false → noPlace 1024 w h p q ≡ false → (k : Index) → share 1024 w h p q k ≤ 1024
 share-small w h p q e f k =
     let i = in-cells w h p q e f in
     share-at (isDown 1024 (rest 1024 w p) (rest 1024 h q)) (rest 1024 w p) (rest 1024 h q) (i .0 .left) (i .1 .left) k
 
-pub shares-sum : (w h p q : ℕ) → badSize w h ≡ false → noPlace w h p q ≡ false →
+pub shares-sum : (w h p q : ℕ) → badSize w h ≡ false → noPlace 1024 w h p q ≡ false →
     share 1024 w h p q one + share 1024 w h p q two + share 1024 w h p q three ≡ 1024
 shares-sum w h p q e f =
     let i = in-cells w h p q e f in

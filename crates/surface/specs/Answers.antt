@@ -47,6 +47,7 @@ pointAnswer net w h p q =
 abbrev pub millimetres : ℤ → Float
 millimetres z = div binary64 (ofInt binary64 z) (ofInt binary64 (pos 1024))
 
+-- a viewer's point: x, y, z in millimetres
 abbrev pub viewPoint : List ℤ → ℕ → ℕ → ℕ → ℕ → List Float
 viewPoint net w h p q = map millimetres (surfacePoint net w h p q)
 

@@ -58,7 +58,7 @@ threeAt xs ys zs n = getD xs n (pos 0) ∷ getD ys n (pos 0) ∷ getD zs n (pos 
 
 -- the refusals of a place but for the range: 1, 6, 2
 abbrev pub placeRefusal : List ℤ → ℕ → ℕ → ℕ → ℕ → ℕ
-placeRefusal net w h p q = firstFault ((badSize w h, 1) ∷ (noPlace w h p q, 6) ∷ (shortNet net w h, 2) ∷ [])
+placeRefusal net w h p q = firstFault ((badSize w h, 1) ∷ (noPlace 1024 w h p q, 6) ∷ (shortNet net w h, 2) ∷ [])
 
 -- the cell, the kind of the triangle and the shares that belong to a place
 pub record Placed (w h p q i j : ℕ) (down : Bool) (a b d : ℕ) : Type 0 where

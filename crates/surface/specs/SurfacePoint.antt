@@ -9,6 +9,10 @@ use Rattle.exact.specs.Rounding.{rounded}
 use Rattle.net.specs.Net.{Index, one, two, three, Triangle, triangleAt, Field, field}
 use Rattle.surface.specs.BezierNet.{Controls, controlsOf, pointS, pointU, pointV, pointR, pointM, pointZ}
 
+-- a place (document 01's term: a parameter of the surface, counted in D-ths of an edge) of the grid: 'p up to 1024(w-1), q up to 1024(h-1)'
+abbrev pub OnGrid : ℕ → ℕ → ℕ → ℕ → ℕ → Type 0
+OnGrid D w h p q = (p ≤ D * (w - 1)) × (q ≤ D * (h - 1))
+
 -- 'Cell: i the smaller of p/1024 rounded down and w-2': of a side of n vertices, at edge count D
 abbrev pub cell : ℕ → ℕ → ℕ → ℕ
 cell D n p = min (p / D) (n - 2)

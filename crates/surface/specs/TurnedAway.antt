@@ -10,12 +10,12 @@ use Rattle.net.specs.Net.{one, two, three, Triangle, triangleAt, corner, vertex
 use Rattle.net.specs.TurnedAway.{firstFault, badSize, shortNet, anyBeyond}
 use Rattle.surface.specs.SurfacePoint.{chosen}
 
--- 6: no such triangle, and no such place at edge count 1,024
+-- 6: no such triangle, and no such place at edge count D
 abbrev pub noTriangle : ℕ → ℕ → ℕ → ℕ → Bool
 noTriangle w h i j = leb (w - 1) i || leb (h - 1) j
 
-abbrev pub noPlace : ℕ → ℕ → ℕ → ℕ → Bool
-noPlace w h p q = ltb (1024 * (w - 1)) p || ltb (1024 * (h - 1)) q
+abbrev pub noPlace : ℕ → ℕ → ℕ → ℕ → ℕ → Bool
+noPlace D w h p q = ltb (D * (w - 1)) p || ltb (D * (h - 1)) q
 
 -- 3: a number of the triangle's nine control points outside the net range
 abbrev pub triangleBeyond : List ℤ → ℕ → Triangle → Bool
@@ -38,7 +38,7 @@ abbrev pub pointRefusal : List ℤ → ℕ → ℕ → ℕ → ℕ → ℕ
 pointRefusal net w h p q =
     firstFault
     ((badSize w h, 1)
-    ∷ (noPlace w h p q, 6)
+    ∷ (noPlace 1024 w h p q, 6)
     ∷ (shortNet net w h, 2)
     ∷ (triangleBeyond net w (chosen 1024 w h p q), 3)
     ∷ [])

@@ -40,7 +40,7 @@ fn cell_of(n: usize, p: usize) -> usize
 
 // The triangle of a place and the shares of its corners.
 pub fn locate(w: usize, h: usize, p: usize, q: usize) -> Located
-    requires { ⌜ (badSize w h ≡ false) × (noPlace w h p q ≡ false) ⌝ }
+    requires { ⌜ (badSize w h ≡ false) × (noPlace 1024 w h p q ≡ false) ⌝ }
     ensures { λ r. ⌜ Placed w h p q (r .i) (r .j) (r .down) (r .a) (r .b) (r .d) ⌝ }
 {
     let i = cell_of(w, p);
@@ -71,7 +71,7 @@ pub fn locate(w: usize, h: usize, p: usize, q: usize) -> Located
 // Whether place (p, q) is not in the grid.
 fn no_place(w: usize, h: usize, p: usize, q: usize) -> bool
     requires { ⌜ badSize w h ≡ false ⌝ }
-    ensures { λ r. ⌜ r ≡ noPlace w h p q ⌝ }
+    ensures { λ r. ⌜ r ≡ noPlace 1024 w h p q ⌝ }
 {
     if 1024 * (w - 1) < p {
         true

@@ -64,7 +64,7 @@ in-place false false false false t₃ = refl
 
 pub point-export : (net : List ℤ) (w h p q room : ℕ) → withRoom (ltb room 3) (pointRefusal net w h p q) ≡ pointExport net w h p q room
 point-export net w h p q room =
-    in-place (badSize w h) (noPlace w h p q) (shortNet net w h) (ltb room 3) (triangleBeyond net w (chosen 1024 w h p q))
+    in-place (badSize w h) (noPlace 1024 w h p q) (shortNet net w h) (ltb room 3) (triangleBeyond net w (chosen 1024 w h p q))
 
 -- an answer is a refusal's number and its values, which are none where it is refused: what an accepted answer tells, and a refused one
 module _ {A : Type 0} (r : ℕ) (values : List A) where

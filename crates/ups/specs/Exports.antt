@@ -32,7 +32,7 @@ abbrev pub pointExport : List ℤ → ℕ → ℕ → ℕ → ℕ → ℕ → �
 pointExport net w h p q room =
     firstFault
     ((badSize w h, 1)
-    ∷ (noPlace w h p q, 6)
+    ∷ (noPlace 1024 w h p q, 6)
     ∷ (shortNet net w h, 2)
     ∷ (ltb room 3, 5)
     ∷ (triangleBeyond net w (chosen 1024 w h p q), 3)
