@@ -43,6 +43,10 @@ at-most-left a b e = record { lt = go a b (subst (λ (t : Bool). T (not t)) (sym
 pub reads-back : (w : Width) (z : ℤ) → mag z < 2 ^ hbits w → toZ w (ofZ w z) ≡ z
 reads-back w z h = toZ-ofZ {w = w} {z = z} (record { sfits = h })
 
+-- the same of a number with an equation, as what a call gave
+pub reads-as : (w : Width) (z : ℤ) {y : ℤ} → mag z < 2 ^ hbits w → z ≡ y → toZ w (ofZ w z) ≡ y
+reads-as w z h e = reads-back w z h ∙ e
+
 -- ---- leaves: the bits held, what they stand for, and a bound for its size
 
 pub record Leaf (w : Width) : Type 0 where

@@ -16,7 +16,7 @@ use mir.Val.{toZ, ofZ}
 use Rattle.exact.specs.Rounding.{rounded}
 use Rattle.exact.specs.WeightedSum.{weightedSum, Summed, Within}
 use Rattle.exact.proofs.Expressions.{Expr, var, lit, _⊕_, _⊗_, identity}
-use Rattle.exact.proofs.SignedCode.{reads-back}
+use Rattle.exact.proofs.SignedCode.{reads-as}
 use Rattle.exact.proofs.WeightedSumLaws.{weightedSum-sym, sum-size, sizes, sum-sizes, sumFrom, sum-expression}
 use Rattle.exact.proofs.RoundingLaws.{rounded-size}
 use Rattle.net.specs.Net.{Index, rank}
@@ -83,7 +83,7 @@ point-small weights values e h k =
 -- ---- what the code reads: a part out of its bits, and a part that is 0
 
 pub part : (z : ℤ) {row k : List ℤ} → mag z < 2 ^ 63 → Summed row k z → toZ w64 (ofZ w64 z) ≡ weightedSum row k
-part z g s = reads-back w64 z g ∙ s .sum
+part z g s = reads-as w64 z g (s .sum)
 
 pub none : (k : List ℤ) → length k ≡ 6 → pos 0 ≡ weightedSum (pos 0 ∷ pos 0 ∷ pos 0 ∷ pos 0 ∷ pos 0 ∷ pos 0 ∷ []) k
 none k e = sym (sum-expression (pos 0 ∷ pos 0 ∷ pos 0 ∷ pos 0 ∷ pos 0 ∷ pos 0 ∷ []) k 0 (omega (arith, e)) ∙ identity (sumFrom (pos 0 ∷ pos 0 ∷ pos 0 ∷ pos 0 ∷ pos 0 ∷ pos 0 ∷ []) 0) (lit (pos 0)) k refl)

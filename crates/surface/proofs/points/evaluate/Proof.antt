@@ -1,21 +1,13 @@
 -- `surface::points::evaluate` meets its contract.
-use mathlib.Core.Path.{_≡_, sym, subst, _∙_}
-use Prim.Native.Nat.{_<_, _^_}
-use lib.Signed.{mag}
-use lib.IntN.{ℤ}
-use mir.Val.{toZ, ofZ}
+use mathlib.Core.Path.{sym, subst, _∙_}
 use mir.Syntax.{w32}
 use borrow.Author.Needs.{needs}
-use Rattle.exact.proofs.SignedCode.{reads-back}
+use Rattle.exact.proofs.SignedCode.{reads-as}
 use Rattle.exact.specs.WeightedSum.{weightedSum, Within}
 use Rattle.exact.specs.Rounding.{rounded}
 use Rattle.surface.proofs.Evaluation.{parts-within}
 use Rattle.surface.proofs.points.evaluate.Statement.{statement}
 use Rattle.surface.proofs.points.evaluate.Tie as tie
-
--- what a call gave, out of its bits, and what that is
-point : (z : ℤ) {y x : ℤ} → mag z < 2 ^ 31 → z ≡ y → y ≡ x → toZ w32 (ofZ w32 z) ≡ x
-point z g e f = reads-back w32 z g ∙ e ∙ f
 
 parts-of-requires : tie.Need-parts-of-requires
 parts-of-requires c κs = search needs
@@ -49,13 +41,13 @@ weighted-point-requires-3 c κs = (
 
 returns : tie.Need-returns
 returns c = (
-  point (c .before .before .weighted-point .result) (c .before .before .weighted-point .ok) (c .before .before .weighted-point .ensures)
-      (λ t. rounded (weightedSum (c .before .before .before .before .before .before .parts-of .ensures t) (c .before .before .before .before .before .coordinate-values .ensures t)) 37748736),
+  reads-as w32 (c .before .before .weighted-point .result) (c .before .before .weighted-point .ok)
+      (c .before .before .weighted-point .ensures ∙ (λ t. rounded (weightedSum (c .before .before .before .before .before .before .parts-of .ensures t) (c .before .before .before .before .before .coordinate-values .ensures t)) 37748736)),
   (
-    point (c .before .weighted-point2 .result) (c .before .weighted-point2 .ok) (c .before .weighted-point2 .ensures)
-        (λ t. rounded (weightedSum (c .before .before .before .before .before .before .parts-of .ensures t) (c .before .before .before .before .coordinate-values2 .ensures t)) 37748736),
-    point (c .weighted-point3 .result) (c .weighted-point3 .ok) (c .weighted-point3 .ensures)
-        (λ t. rounded (weightedSum (c .before .before .before .before .before .before .parts-of .ensures t) (c .before .before .before .coordinate-values3 .ensures t)) 37748736),
+    reads-as w32 (c .before .weighted-point2 .result) (c .before .weighted-point2 .ok)
+        (c .before .weighted-point2 .ensures ∙ (λ t. rounded (weightedSum (c .before .before .before .before .before .before .parts-of .ensures t) (c .before .before .before .before .coordinate-values2 .ensures t)) 37748736)),
+    reads-as w32 (c .weighted-point3 .result) (c .weighted-point3 .ok)
+        (c .weighted-point3 .ensures ∙ (λ t. rounded (weightedSum (c .before .before .before .before .before .before .parts-of .ensures t) (c .before .before .before .coordinate-values3 .ensures t)) 37748736)),
   ),
 )
 

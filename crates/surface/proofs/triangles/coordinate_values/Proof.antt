@@ -1,6 +1,6 @@
 -- `surface::triangles::coordinate_values` meets its contract.
 use mathlib.Core.List.{List, [], _∷_}
-use mathlib.Core.Path.{_≡_, ap, _∙_}
+use mathlib.Core.Path.{_≡_, ap}
 use Prim.Native.Nat.{ℕ, _<_, _^_}
 use lib.Signed.{mag}
 use lib.ListN.{getD}
@@ -8,13 +8,13 @@ use lib.IntN.{ℤ, pos}
 use mir.Val.{toZ, ofZ}
 use mir.Syntax.{w32}
 use borrow.Author.Needs.{needs}
-use Rattle.exact.proofs.SignedCode.{reads-back}
+use Rattle.exact.proofs.SignedCode.{reads-as}
 use Rattle.surface.proofs.triangles.coordinate_values.Statement.{statement}
 use Rattle.surface.proofs.triangles.coordinate_values.Tie as tie
 
 -- a number of a column that a call gave, read back
 read : (l : List ℤ) {m : List ℤ} → l ≡ m → (i : ℕ) → mag (getD l i (pos 0)) < 2 ^ 31 → toZ w32 (ofZ w32 (getD l i (pos 0))) ≡ getD m i (pos 0)
-read l e i g = reads-back w32 (getD l i (pos 0)) g ∙ ap (λ (k : List ℤ). getD k i (pos 0)) e
+read l e i g = reads-as w32 (getD l i (pos 0)) g (ap (λ (k : List ℤ). getD k i (pos 0)) e)
 
 array-copy-out-column : tie.Need-array-copy-out-column
 array-copy-out-column c = search needs
