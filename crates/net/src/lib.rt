@@ -3,11 +3,14 @@ mod sizes;
 mod storage;
 mod vertices;
 
+// The calls of document 01: they ask nothing of their caller.
+pub use vertices::vertex;
+pub use vertices::vertex_refusal;
+
+// For the crates above, which are seen to meet what these ask.
 pub use sizes::bad_size;
 pub use sizes::short_net;
 pub use storage::any_beyond;
 pub use storage::load;
 pub use storage::store_point;
 pub use storage::vertex_beyond;
-pub use vertices::vertex;
-pub use vertices::vertex_refusal;
