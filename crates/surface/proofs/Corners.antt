@@ -2,7 +2,7 @@
 use mathlib.Core.Path.{_≡_, refl}
 use mathlib.Core.Bool.{Bool, true, false, _||_}
 use mathlib.Core.List.{List, [], _∷_}
-use Prim.Native.Nat.{ℕ, _+_, _-_, _≤_, _<_}
+use Prim.Native.Nat.{ℕ, _+_, _-_, _*_, _≤_, _<_}
 use native.Mathlib.Omega.{arith}
 use lib.Dec.{leb}
 use lib.IntN.{ℤ, pos, negsuc, natAbs, _+ℤ_, _-ℤ_}
@@ -43,16 +43,19 @@ corner-ends net w i j l true two = omega (arith, l .ends)
 corner-ends net w i j l true three = l .ends
 
 -- a triangle in range has each corner in range
-abbrev others : List ℤ → ℕ → Triangle → Bool
-others net w t = anyBeyond (vertexNumbers net w (corner t two)) || anyBeyond (vertexNumbers net w (corner t three))
+abbrev cornerBeyond : List ℤ → ℕ → Triangle → Index → Bool
+cornerBeyond net w t P = anyBeyond (vertexNumbers net w (corner t P))
 
-corners-fine : (net : List ℤ) (w : ℕ) (t : Triangle) → triangleBeyond net w t ≡ false → (P : Index) → anyBeyond (vertexNumbers net w (corner t P)) ≡ false
-corners-fine net w t e P = at P
-  where
-    at : (P : Index) → anyBeyond (vertexNumbers net w (corner t P)) ≡ false
-    at one = or-none (anyBeyond (vertexNumbers net w (corner t one))) (others net w t) e .0
-    at two = or-none (anyBeyond (vertexNumbers net w (corner t two))) (anyBeyond (vertexNumbers net w (corner t three))) (or-none (anyBeyond (vertexNumbers net w (corner t one))) (others net w t) e .1) .0
-    at three = or-none (anyBeyond (vertexNumbers net w (corner t two))) (anyBeyond (vertexNumbers net w (corner t three))) (or-none (anyBeyond (vertexNumbers net w (corner t one))) (others net w t) e .1) .1
+three-none : (a b c : Bool) → (a || (b || c)) ≡ false → (a ≡ false) × (b ≡ false) × (c ≡ false)
+three-none a b c e =
+    let f = or-none a (b || c) e in
+    let g = or-none b c (f .1) in
+    (f .0, g .0, g .1)
+
+corners-fine : (net : List ℤ) (w : ℕ) (t : Triangle) → triangleBeyond net w t ≡ false → (P : Index) → cornerBeyond net w t P ≡ false
+corners-fine net w t e one = three-none (cornerBeyond net w t one) (cornerBeyond net w t two) (cornerBeyond net w t three) e .0
+corners-fine net w t e two = three-none (cornerBeyond net w t one) (cornerBeyond net w t two) (cornerBeyond net w t three) e .1
+corners-fine net w t e three = three-none (cornerBeyond net w t one) (cornerBeyond net w t two) (cornerBeyond net w t three) e .2
 
 -- and so each of its nine control values
 pub value-size : (net : List ℤ) (w i j : ℕ) (down : Bool) → InNet net w i j → triangleBeyond net w (triangleAt i j down) ≡ false →
@@ -80,11 +83,15 @@ steps-agree i j true one = (back i, refl, stays (i + 1), refl)
 steps-agree i j true two = (refl, stays (j + 1), refl, back j)
 steps-agree i j true three = (stays (i + 1), back j, back i, stays (j + 1))
 
--- k, m and n are the three indices
-pub indices-differ : (down : Bool) (P : Index) → rank (indexK down P) + rank (indexM down P) + rank (indexN down P) ≡ 3
-indices-differ false one = refl
-indices-differ false two = refl
-indices-differ false three = refl
-indices-differ true one = refl
-indices-differ true two = refl
-indices-differ true three = refl
+-- k, m and n are the three indices: their ranks are 0, 1 and 2 in some order, since they add up to 3 and their squares to 5
+pub indices-differ : (down : Bool) (P : Index) →
+    (let k = rank (indexK down P) in
+    let m = rank (indexM down P) in
+    let n = rank (indexN down P) in
+    (k + m + n ≡ 3) × (k * k + m * m + n * n ≡ 5))
+indices-differ false one = (refl, refl)
+indices-differ false two = (refl, refl)
+indices-differ false three = (refl, refl)
+indices-differ true one = (refl, refl)
+indices-differ true two = (refl, refl)
+indices-differ true three = (refl, refl)
