@@ -1,6 +1,10 @@
 //! Times the library `ups` and the same computation in plain Rust on the same inputs.
 
 mod plain;
+// Not every function of the library is timed.
+#[allow(dead_code)]
+#[path = "../../tests/src/raw.rs"]
+mod raw;
 
 use std::hint::black_box;
 use std::time::Instant;
@@ -11,30 +15,6 @@ const ROUNDS: usize = 61;
 /// Passes over the list of inputs in one round, so that a round lasts some milliseconds.
 const PASSES: usize = 16;
 const LIMIT: i32 = 16_777_216;
-
-extern "C" {
-    fn ups_bezier_net(
-        net: *const i32,
-        len: usize,
-        w: usize,
-        h: usize,
-        i: usize,
-        j: usize,
-        down: u32,
-        out: *mut i32,
-        out_len: usize,
-    ) -> u32;
-    fn ups_surface_point(
-        net: *const i32,
-        len: usize,
-        w: usize,
-        h: usize,
-        p: usize,
-        q: usize,
-        out: *mut i32,
-        out_len: usize,
-    ) -> u32;
-}
 
 /// splitmix64 with a fixed seed.
 struct Random(u64);
@@ -108,7 +88,7 @@ fn surface_point<'a>(net: &'a [i32], random: &mut Random) -> Subject<'a> {
                 let mut out = [0; 3];
                 let (at, len, to) = (net.as_ptr(), net.len(), out.as_mut_ptr());
                 // SAFETY: the lengths are those of the net and of the output.
-                let refusal = unsafe { ups_surface_point(at, len, SIDE, SIDE, p, q, to, 3) };
+                let refusal = unsafe { raw::ups_surface_point(at, len, SIDE, SIDE, p, q, to, 3) };
                 assert_eq!(refusal, 0);
                 total += sum(black_box(&out));
             }
@@ -144,7 +124,8 @@ fn bezier_net<'a>(net: &'a [i32], random: &mut Random) -> Subject<'a> {
                 let mut out = [0; 57];
                 let (at, len, to) = (net.as_ptr(), net.len(), out.as_mut_ptr());
                 // SAFETY: the lengths are those of the net and of the output.
-                let refusal = unsafe { ups_bezier_net(at, len, SIDE, SIDE, i, j, down, to, 57) };
+                let refusal =
+                    unsafe { raw::ups_bezier_net(at, len, SIDE, SIDE, i, j, down, to, 57) };
                 assert_eq!(refusal, 0);
                 total += sum(black_box(&out));
             }

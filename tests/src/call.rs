@@ -13,6 +13,18 @@ pub enum Ask {
     View { p: usize, q: usize },
 }
 
+/// Each call on the first up triangle.
+pub const ASKS: [Ask; 4] = [
+    Ask::Vertex { i: 0, j: 0 },
+    Ask::Bezier {
+        i: 0,
+        j: 0,
+        down: 0,
+    },
+    Ask::Surface { p: 300, q: 200 },
+    Ask::View { p: 300, q: 200 },
+];
+
 #[derive(Clone)]
 pub struct Call {
     pub net: Vec<i32>,

@@ -7,51 +7,8 @@
 use crate::oracle::{BEZIER_NUMBERS, POINT_NUMBERS};
 use crate::pages::{Pages, Side};
 use crate::random::mix;
+use crate::raw;
 use std::cell::RefCell;
-
-mod raw {
-    extern "C" {
-        pub fn ups_vertex_refusal(
-            net: *const i32,
-            len: usize,
-            w: usize,
-            h: usize,
-            i: usize,
-            j: usize,
-        ) -> u32;
-        pub fn ups_bezier_net(
-            net: *const i32,
-            len: usize,
-            w: usize,
-            h: usize,
-            i: usize,
-            j: usize,
-            down: u32,
-            out: *mut i32,
-            out_len: usize,
-        ) -> u32;
-        pub fn ups_surface_point(
-            net: *const i32,
-            len: usize,
-            w: usize,
-            h: usize,
-            p: usize,
-            q: usize,
-            out: *mut i32,
-            out_len: usize,
-        ) -> u32;
-        pub fn ups_view_point(
-            net: *const i32,
-            len: usize,
-            w: usize,
-            h: usize,
-            p: usize,
-            q: usize,
-            out: *mut f64,
-            out_len: usize,
-        ) -> u32;
-    }
-}
 
 /// Canary values on each side of a lent slice.
 const GUARD: usize = 128;

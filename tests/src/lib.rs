@@ -11,3 +11,4 @@ pub mod oracle;
 pub mod pages;
 pub mod random;
 pub mod rational;
+mod raw;

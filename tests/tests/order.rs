@@ -1,6 +1,6 @@
 //! Several faults at once: the earliest number of the order is answered.
 
-use ups_tests::call::{Ask, Call};
+use ups_tests::call::{Ask, Call, ASKS};
 use ups_tests::nets::{self, Numbers};
 use ups_tests::oracle::{self, LIMIT};
 use ups_tests::random::Random;
@@ -11,17 +11,6 @@ const ORDER: [u32; 5] = [1, 6, 2, 5, 3];
 
 /// Puts one fault into a call.
 type Fault = fn(&mut Call);
-
-const ASKS: [Ask; 4] = [
-    Ask::Vertex { i: 0, j: 0 },
-    Ask::Bezier {
-        i: 0,
-        j: 0,
-        down: 0,
-    },
-    Ask::Surface { p: 300, q: 200 },
-    Ask::View { p: 300, q: 200 },
-];
 
 fn base(ask: Ask) -> Call {
     let net = nets::random_net(&mut Random::new(61), SIZE, Numbers::Mixed);

@@ -1,6 +1,6 @@
 //! Each refusal of each call, one fault at a time.
 
-use ups_tests::call::{Ask, Call};
+use ups_tests::call::{Ask, Call, ASKS};
 use ups_tests::nets::{self, Numbers};
 use ups_tests::oracle::{chosen_triangle, Kind, Triangle, EDGE, LIMIT};
 use ups_tests::random::Random;
@@ -14,18 +14,6 @@ const BEYOND: [i32; 4] = [LIMIT + 1, -LIMIT - 1, i32::MIN, i32::MAX];
 fn net() -> Vec<i32> {
     nets::random_net(&mut Random::new(51), SIZE, Numbers::Mixed)
 }
-
-/// Each call on the first up triangle.
-const ASKS: [Ask; 4] = [
-    Ask::Vertex { i: 0, j: 0 },
-    Ask::Bezier {
-        i: 0,
-        j: 0,
-        down: 0,
-    },
-    Ask::Surface { p: 300, q: 200 },
-    Ask::View { p: 300, q: 200 },
-];
 
 /// A surface point and a viewer's point at one place.
 fn points(p: usize, q: usize) -> [Ask; 2] {

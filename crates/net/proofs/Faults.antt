@@ -5,7 +5,8 @@ use mathlib.Core.List.{List, [], _∷_, _++_}
 use Prim.Native.Nat.{ℕ, _<_}
 use native.Mathlib.Omega.{arith}
 use lib.Dec.{T}
-use Rattle.net.specs.TurnedAway.{Fault, firstFault}
+use borrow.Author.Tests.{eq-eqb, ne-eqb}
+use Rattle.net.specs.TurnedAway.{Fault, firstFault, accepted}
 
 -- `a || b` from a alone, and from b where a fails
 pub or-yes : (a b : Bool) → a ≡ true → true ≡ (a || b)
@@ -32,6 +33,13 @@ module _ {ℓ} {A : Type ℓ} where
 
   pub cond-false : (t : Bool) (x y : A) {z : A} → t ≡ false → z ≡ y → z ≡ cond t x y
   cond-false t x y e q = q ∙ ap (λ (b : Bool). cond b x y) (sym e)
+
+  -- what stands where nothing is refused, and where something is
+  pub when-accepted : (r : ℕ) (x y : A) → r ≡ 0 → x ≡ cond (accepted r) x y
+  when-accepted r x y e = cond-true (accepted r) x y (eq-eqb r 0 e)
+
+  pub when-refused : (r : ℕ) (x y : A) → (r ≡ 0 → ⊥) → y ≡ cond (accepted r) x y
+  when-refused r x y e = cond-false (accepted r) x y (ne-eqb r 0 e) refl
 
 -- where nothing is refused, the first fault is not there, nor is any after it
 pub fault-none : (t : Bool) (n r : ℕ) → 0 < n → cond t n r ≡ 0 → (t ≡ false) × (r ≡ 0)

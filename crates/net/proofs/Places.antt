@@ -1,6 +1,6 @@
 -- Sizes that are accepted, places of vertices in storage, and stores.
-use mathlib.Core.Path.{_≡_, sym, ap, subst, _∙_}
-use mathlib.Core.Bool.{Bool, false, cond}
+use mathlib.Core.Path.{_≡_, refl, sym, ap, subst, _∙_}
+use mathlib.Core.Bool.{false}
 use mathlib.Core.List.{List, [], _∷_}
 use Prim.Native.Nat.{ℕ, zero, suc, _+_, _*_, _≤_, _<_}
 use native.Mathlib.Nat.{mul-le-mul, mul-comm}
@@ -11,12 +11,12 @@ use lib.Dec.{ltb, lit<}
 use lib.IntN.{ℤ, pos, natAbs}
 use lib.ListN.{length, getD, set, drop, length-take, length-drop}
 use lib.Seq.{sets, getD-take, getD-drop}
-use borrow.Author.Tests.{ltb-false, leb-false, ne-eqb}
+use borrow.Author.Tests.{ltb-false, leb-false}
 use Rattle.exact.specs.Filling.{runs}
 use Rattle.exact.proofs.FillingLaws.{array-elements}
 use Rattle.net.specs.Net.{Index, one, two, three, rank, Vertex, vertexAt, numbers, start, vertexNumbers, number, controlPoint, controlTriangle, field}
-use Rattle.net.specs.TurnedAway.{badSide, badSize, noVertex, shortNet, anyBeyond, vertexRefusal, vertexPart, accepted}
-use Rattle.net.proofs.Faults.{or-none, fault-none}
+use Rattle.net.specs.TurnedAway.{badSide, badSize, noVertex, shortNet, anyBeyond, vertexRefusal, vertexPart}
+use Rattle.net.proofs.Faults.{or-none, fault-none, when-accepted, when-refused}
 use Rattle.net.proofs.Ranges.{in-range}
 
 -- 2 to 1,025 vertices a side
@@ -79,11 +79,11 @@ vertex-lies net w h i j v =
 -- the vertex part where it is accepted, and where it is refused
 pub accepted-part : (net : List ℤ) (w h i j : ℕ) → vertexRefusal net w h i j ≡ 0 → vertexNumbers net w (vertexAt i j) ≡ vertexPart net w h i j
 unfolding vertexPart
-accepted-part net w h i j e = ap (λ (n : ℕ). cond (accepted n) (vertexNumbers net w (vertexAt i j)) []) (sym e)
+accepted-part net w h i j e = when-accepted (vertexRefusal net w h i j) (vertexNumbers net w (vertexAt i j)) [] e
 
 pub refused-part : (net : List ℤ) (w h i j : ℕ) → (vertexRefusal net w h i j ≡ 0 → ⊥) → [] ≡ vertexPart net w h i j
 unfolding vertexPart
-refused-part net w h i j e = ap (λ (b : Bool). cond b (vertexNumbers net w (vertexAt i j)) []) (sym (ne-eqb _ 0 e))
+refused-part net w h i j e = when-refused (vertexRefusal net w h i j) (vertexNumbers net w (vertexAt i j)) [] e
 
 -- an array of three is its three elements
 array3 : (l : List ℤ) → length l ≡ 3 → l ≡ getD l 0 (pos 0) ∷ getD l 1 (pos 0) ∷ getD l 2 (pos 0) ∷ []
@@ -95,20 +95,20 @@ pub stored : (l : List ℤ) (at : ℕ) (p : List ℤ) → length p ≡ 3 →
     set (set (set l at (getD p 0 (pos 0))) (at + 1) (getD p 1 (pos 0))) (at + 2) (getD p 2 (pos 0)) ≡ sets l at p
 stored l at p e = simp unary-clauses (ap (sets l at) (sym (array3 p e)))
 
--- where a number of a field stands in storage
+-- where a number of a control point and of a field stands in storage
+point-number : (net : List ℤ) (at x : ℕ) → x < 3 → number (controlPoint net at) x ≡ number net (at + x)
+unfolding controlPoint
+point-number net at zero h = ap (number net) (omega arith)
+point-number net at (suc zero) h = refl
+point-number net at (suc (suc zero)) h = refl
+point-number net at (suc (suc (suc x))) h = absurd (omega (arith, h))
+
 pub field-number : (net : List ℤ) (w : ℕ) (v : Vertex) (k : Index) (x : ℕ) → x < 3 →
     field net w x v k ≡ number net (start w v + (3 * rank k + x))
-unfolding controlTriangle controlPoint
-field-number net w v one zero h = ap (number net) (omega arith)
-field-number net w v one (suc zero) h = ap (number net) (omega arith)
-field-number net w v one (suc (suc zero)) h = ap (number net) (omega arith)
-field-number net w v two zero h = ap (number net) (omega arith)
-field-number net w v two (suc zero) h = ap (number net) (omega arith)
-field-number net w v two (suc (suc zero)) h = ap (number net) (omega arith)
-field-number net w v three zero h = ap (number net) (omega arith)
-field-number net w v three (suc zero) h = ap (number net) (omega arith)
-field-number net w v three (suc (suc zero)) h = ap (number net) (omega arith)
-field-number net w v k (suc (suc (suc x))) h = absurd (omega (arith, h))
+unfolding controlTriangle
+field-number net w v one x h = point-number net (start w v) x h ∙ ap (number net) (omega arith)
+field-number net w v two x h = point-number net (start w v + 3) x h ∙ ap (number net) (omega arith)
+field-number net w v three x h = point-number net (start w v + 6) x h ∙ ap (number net) (omega arith)
 
 -- the last of the nine numbers is the ninth
 pub nine-numbers : (k : Index) (x : ℕ) → x < 3 → 3 * rank k + x < 9

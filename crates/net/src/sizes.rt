@@ -17,7 +17,7 @@ pub fn bad_size(w: usize, h: usize) -> bool
     if bad_side(w) { true } else { bad_side(h) }
 }
 
-// Whether a net of an accepted size is shorter than nine times its vertices.
+// Whether a net of an accepted size is shorter than nine times its vertices. For the crates above; they test the size first.
 pub fn short_net(net: &[i32], w: usize, h: usize) -> bool
     requires { ⌜ badSize w h ≡ false ⌝ }
     ensures { λ r. ⌜ r ≡ shortNet (now (net .entry)) w h ⌝ }

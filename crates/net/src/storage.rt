@@ -17,7 +17,7 @@ fn load_point(net: &[i32], at: usize) -> [i32; 3]
     [x, y, z]
 }
 
-// The control triangle of vertex (i, j).
+// The control triangle of vertex (i, j). For the crates above, which have refused every vertex that is not in the net.
 pub fn load(net: &[i32], w: usize, i: usize, j: usize) -> [[i32; 3]; 3]
     requires { ⌜ start w (vertexAt i j) + 9 ≤ length (now net) ⌝ }
     ensures { λ r. ⌜ r ≡ controlTriangle (now (net .entry)) w (vertexAt i j) ⌝ }
@@ -29,7 +29,7 @@ pub fn load(net: &[i32], w: usize, i: usize, j: usize) -> [[i32; 3]; 3]
     [c1, c2, c3]
 }
 
-// A control point stored from a place on.
+// A control point stored from a place on. For the crates above, which have refused every output that is too short.
 pub fn store_point(point: [i32; 3], at: usize, out: &mut [i32])
     requires { ⌜ at + 3 ≤ length (now out) ⌝ }
     ensures { λ r. ⌜ now (out .exit) ≡ sets (now (out .entry)) at point ⌝ }
@@ -64,7 +64,7 @@ pub fn any_beyond(numbers: &[i32]) -> bool
     false
 }
 
-// Whether one of the nine numbers of vertex (i, j) is.
+// Whether one of the nine numbers of vertex (i, j) is. For the crates above, which have refused every vertex that is not in the net.
 pub fn vertex_beyond(net: &[i32], w: usize, i: usize, j: usize) -> bool
     requires { ⌜ start w (vertexAt i j) + 9 ≤ length (now net) ⌝ }
     ensures { λ r. ⌜ r ≡ anyBeyond (vertexNumbers (now (net .entry)) w (vertexAt i j)) ⌝ }

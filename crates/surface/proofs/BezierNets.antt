@@ -1,20 +1,20 @@
 -- What an accepted Bézier net is known by, and what a call leaves in its output.
 use mathlib.Core.Path.{_≡_, sym, ap, _∙_}
-use mathlib.Core.Bool.{Bool, false, cond}
+use mathlib.Core.Bool.{Bool, true, false}
 use mathlib.Core.List.{List, map}
 use Prim.Native.Nat.{ℕ, _≤_, _<_}
 use lib.Dec.{ltb, lit<}
 use lib.IntN.{ℤ}
 use lib.ListN.{length}
-use borrow.Author.Tests.{ltb-false, ne-eqb}
+use borrow.Author.Tests.{ltb-false, eq-eqb, ne-eqb}
 use Rattle.exact.specs.WeightedSum.{weightedSum, Within}
 use Rattle.exact.specs.Filling.{over, runs}
 use Rattle.net.specs.Net.{Triangle, triangleAt, field}
-use Rattle.net.specs.TurnedAway.{badSize, shortNet, accepted}
-use Rattle.net.proofs.Faults.{fault-none}
+use Rattle.net.specs.TurnedAway.{badSize, shortNet}
+use Rattle.net.proofs.Faults.{fault-none, when-accepted, when-refused}
 use Rattle.surface.specs.BezierNet.{controlsOf, bezierPoints, bezierNumbers}
 use Rattle.surface.specs.TurnedAway.{noTriangle, triangleBeyond, bezierRefusal}
-use Rattle.surface.specs.Answers.{bezierOutput}
+use Rattle.surface.specs.Answers.{bezierAnswer, bezierOutput}
 use Rattle.surface.specs.SurfacePoint.{o123}
 use Rattle.surface.specs.Evaluation.{InNet, cornerControls, turned, valuesIn, bezierRows, threeAt}
 use Rattle.surface.proofs.Corners.{in-net-triangle, value-size}
@@ -70,15 +70,21 @@ points-of-net net w t =
     λ x. points-by-rows (t .down) (controlsOf (field net w x) t) in
     λ i. runs 19 (threeAt (same 0 i) (same 1 i) (same 2 i))
 
--- the output where the call is accepted, and where it is refused
-pub accepted-output : (net : List ℤ) (w h i j : ℕ) (down : Bool) (out : List ℤ) → bezierRefusal net w h i j down (length out) ≡ 0 →
-    over (bezierNumbers net w (triangleAt i j down)) out ≡ bezierOutput net w h i j down out
+-- answer and output where the call is accepted, and where it is refused
+pub accepted-bezier : (net : List ℤ) (w h i j : ℕ) (down : Bool) (out : List ℤ) {l : List ℤ} → bezierRefusal net w h i j down (length out) ≡ 0 →
+    l ≡ over (bezierNumbers net w (triangleAt i j down)) out →
+    (_≡_ {A = ℕ × Bool} (0, true) (bezierAnswer net w h i j down (length out))) × (l ≡ bezierOutput net w h i j down out)
 unfolding bezierOutput
-accepted-output net w h i j down out e =
-    ap (λ (n : ℕ). cond (accepted n) (over (bezierNumbers net w (triangleAt i j down)) out) out) (sym e)
+accepted-bezier net w h i j down out e q = (
+  (λ t. (sym e t, sym (eq-eqb (bezierRefusal net w h i j down (length out)) 0 e) t)),
+  q ∙ when-accepted (bezierRefusal net w h i j down (length out)) (over (bezierNumbers net w (triangleAt i j down)) out) out e,
+)
 
-pub refused-output : (net : List ℤ) (w h i j : ℕ) (down : Bool) (out : List ℤ) →
-    (bezierRefusal net w h i j down (length out) ≡ 0 → ⊥) → out ≡ bezierOutput net w h i j down out
+pub refused-bezier : (net : List ℤ) (w h i j : ℕ) (down : Bool) (out : List ℤ) {n : ℕ} → n ≡ bezierRefusal net w h i j down (length out) → (n ≡ 0 → ⊥) →
+    (_≡_ {A = ℕ × Bool} (n, false) (bezierAnswer net w h i j down (length out))) × (out ≡ bezierOutput net w h i j down out)
 unfolding bezierOutput
-refused-output net w h i j down out e =
-    ap (λ (b : Bool). cond b (over (bezierNumbers net w (triangleAt i j down)) out) out) (sym (ne-eqb _ 0 e))
+refused-bezier net w h i j down out e k =
+    let there : bezierRefusal net w h i j down (length out) ≡ 0 → ⊥ = λ z. k (e ∙ z) in (
+      (λ t. (e t, sym (ne-eqb (bezierRefusal net w h i j down (length out)) 0 there) t)),
+      when-refused (bezierRefusal net w h i j down (length out)) (over (bezierNumbers net w (triangleAt i j down)) out) out there,
+    )

@@ -7,18 +7,17 @@ use native.Mathlib.Nat.{le-refl, le-trans, mul-le-mul, mul-div-le, lt-mul-div-su
 use native.Mathlib.Omega.{arith, min-cases}
 use lib.Dec.{ltb}
 use lib.IntN.{ℤ}
-use lib.ListN.{length}
 use mir.Syntax.{w64}
 use mir.Val.{Fits}
 use borrow.Author.Tests.{ltb-true, ltb-false}
-use Rattle.net.specs.Net.{Index, one, two, three, numbers}
+use Rattle.net.specs.Net.{Index, one, two, three}
 use Rattle.net.specs.TurnedAway.{badSize, shortNet}
 use Rattle.net.proofs.Faults.{or-none}
 use Rattle.net.proofs.Places.{good-size}
 use Rattle.surface.specs.SurfacePoint.{cell, rest, isDown, upShare, downShare, share, OnGrid, chosen, LiesBy, LiesIn}
 use Rattle.surface.specs.TurnedAway.{noPlace}
 use Rattle.surface.specs.Evaluation.{InNet, Placed}
-use Rattle.surface.proofs.Corners.{in-net}
+use Rattle.surface.proofs.Corners.{InGrid, in-net}
 
 pub record InCell (n p : ℕ) : Type 0 where
   pub inside : cell 1024 n p + 1 < n
@@ -42,12 +41,15 @@ in-cells w h p q e f =
     let g = on-grid 1024 w h p q f in
     (in-cell w p (s .wide) (s .narrow) (g .0), in-cell h q (s .high) (s .low) (g .1))
 
--- both triangles of the cell of a place of the grid lie in the net
+-- the cell of a place of the grid is one of the grid, and both its triangles lie in the net
+pub cells-in-grid : (w h p q : ℕ) → badSize w h ≡ false → noPlace 1024 w h p q ≡ false → InGrid w h (cell 1024 w p) (cell 1024 h q)
+cells-in-grid w h p q e f =
+    let k = in-cells w h p q e f in
+    record { column = k .0 .inside; row = k .1 .inside }
+
 pub in-net-place : (net : List ℤ) (w h p q : ℕ) → badSize w h ≡ false → noPlace 1024 w h p q ≡ false → shortNet net w h ≡ false →
     InNet net w (cell 1024 w p) (cell 1024 h q)
-in-net-place net w h p q e₁ e₆ e₂ =
-    let k = in-cells w h p q e₁ e₆ in
-    in-net net (good-size w h e₁) (k .0 .inside) (k .1 .inside) (ltb-false (length net) (numbers w h) e₂)
+in-net-place net w h p q e₁ e₆ e₂ = in-net net e₁ e₂ (cells-in-grid w h p q e₁ e₆)
 
 -- what is left in a cell that the code found
 pub left-at : {n p i : ℕ} → i ≡ cell 1024 n p → InCell n p → p - 1024 * i ≤ 1024

@@ -9,38 +9,52 @@ use lib.IntN.{ℤ, pos, negsuc, natAbs, _+ℤ_, _-ℤ_}
 use lib.ListN.{length}
 use borrow.Author.Tests.{leb-false, ltb-false}
 use Rattle.exact.proofs.Expressions.{var, lit, _⊕_, identity}
-use Rattle.net.specs.Net.{Index, one, two, three, rank, next, previous, Triangle, triangleAt, corner, stepColumn, stepRow, numbers, start, vertexNumbers, field}
+use Rattle.net.specs.Net.{Index, one, two, three, rank, next, previous, vertexAt, Triangle, triangleAt, corner, stepColumn, stepRow, numbers, start, vertexNumbers, field}
 use Rattle.net.specs.TurnedAway.{badSize, shortNet, anyBeyond}
 use Rattle.net.proofs.Faults.{or-none}
-use Rattle.net.proofs.Places.{GoodSize, good-size, vertex-ends, field-size}
+use Rattle.net.proofs.Places.{good-size, vertex-ends, field-size}
 use Rattle.surface.specs.BezierNet.{controlsOf, indexK, indexM, indexN}
 use Rattle.surface.specs.TurnedAway.{noTriangle, triangleBeyond}
 use Rattle.surface.specs.Evaluation.{InNet}
 
--- both triangles of a cell of the grid lie in the net
-pub in-net : (net : List ℤ) {w h i j : ℕ} → GoodSize w h → i + 1 < w → j + 1 < h → numbers w h ≤ length net → InNet net w i j
-in-net net {w} {h} {i} {j} s a b l =
-    let ends = vertex-ends {w = w} {h = h} {i = i + 1} {j = j + 1} a b in
-    record { width = s .narrow; column = a; row = omega (arith, b, s .low); ends = omega (arith, ends, l) }
+-- a cell of the grid
+pub record InGrid (w h i j : ℕ) : Type 0 where
+  pub column : i + 1 < w
+  pub row : j + 1 < h
+
+pub cell-in-grid : (w h i j : ℕ) → badSize w h ≡ false → noTriangle w h i j ≡ false → InGrid w h i j
+cell-in-grid w h i j e f =
+    let s = good-size w h e in
+    let t = or-none (leb (w - 1) i) (leb (h - 1) j) f in
+    record {
+      column = omega (arith, leb-false (w - 1) i (t .0), s .wide);
+      row = omega (arith, leb-false (h - 1) j (t .1), s .high);
+    }
+
+-- both its triangles lie in the net
+pub in-net : (net : List ℤ) {w h i j : ℕ} → badSize w h ≡ false → shortNet net w h ≡ false → InGrid w h i j → InNet net w i j
+in-net net {w} {h} {i} {j} e₁ e₂ g =
+    let s = good-size w h e₁ in
+    let l = ltb-false (length net) (numbers w h) e₂ in
+    let ends = vertex-ends {w = w} {h = h} {i = i + 1} {j = j + 1} (g .column) (g .row) in
+    record { width = s .narrow; column = g .column; row = omega (arith, g .row, s .low); ends = omega (arith, ends, l) }
 
 pub in-net-triangle : (net : List ℤ) (w h i j : ℕ) →
     badSize w h ≡ false → noTriangle w h i j ≡ false → shortNet net w h ≡ false → InNet net w i j
-in-net-triangle net w h i j e₁ e₆ e₂ =
-    let s = good-size w h e₁ in
-    let t = or-none (leb (w - 1) i) (leb (h - 1) j) e₆ in
-    let a = leb-false (w - 1) i (t .0) in
-    let b = leb-false (h - 1) j (t .1) in
-    in-net net s (omega (arith, a, s .wide)) (omega (arith, b, s .high)) (ltb-false (length net) (numbers w h) e₂)
+in-net-triangle net w h i j e₁ e₆ e₂ = in-net net e₁ e₂ (cell-in-grid w h i j e₁ e₆)
 
--- each corner of a triangle of a cell in the net ends within it
+-- no corner of its triangles is stored after (i + 1, j + 1)
+pub corner-before : (w i j : ℕ) → i + 1 < w → (down : Bool) (P : Index) → start w (corner (triangleAt i j down) P) ≤ start w (vertexAt (i + 1) (j + 1))
+corner-before w i j a false one = omega arith
+corner-before w i j a false two = omega arith
+corner-before w i j a false three = omega arith
+corner-before w i j a true one = omega arith
+corner-before w i j a true two = omega arith
+corner-before w i j a true three = omega arith
+
 pub corner-ends : (net : List ℤ) (w i j : ℕ) → InNet net w i j → (down : Bool) (P : Index) →
     start w (corner (triangleAt i j down) P) + 9 ≤ length net
-corner-ends net w i j l false one = omega (arith, l .ends)
-corner-ends net w i j l false two = omega (arith, l .ends)
-corner-ends net w i j l false three = omega (arith, l .ends, l .column)
-corner-ends net w i j l true one = omega (arith, l .ends)
-corner-ends net w i j l true two = omega (arith, l .ends)
-corner-ends net w i j l true three = l .ends
+corner-ends net w i j l down P = omega (arith, corner-before w i j (l .column) down P, l .ends)
 
 -- a triangle in range has each corner in range
 abbrev cornerBeyond : List ℤ → ℕ → Triangle → Index → Bool

@@ -6,12 +6,12 @@ use Prim.Native.Nat.{ℕ, _+_, _-_, _*_, _≤_, _<_}
 use native.Mathlib.Omega.{arith}
 use lib.Dec.{ltb, lit<}
 use lib.IntN.{ℤ}
-use borrow.Author.Tests.{eq-eqb, ne-eqb, ltb-true, ltb-false}
+use borrow.Author.Tests.{ltb-true, ltb-false}
 use Rattle.exact.specs.Rounding.{rounded}
 use Rattle.exact.specs.WeightedSum.{weightedSum, Within}
 use Rattle.net.specs.Net.{Index, one, two, three, rank, field}
 use Rattle.net.specs.TurnedAway.{badSize, shortNet, accepted}
-use Rattle.net.proofs.Faults.{cond-first, cond-false, fault-none, fault-before}
+use Rattle.net.proofs.Faults.{when-accepted, when-refused, cond-false, fault-none, fault-before}
 use Rattle.surface.specs.BezierNet.{controlsOf}
 use Rattle.surface.specs.SurfacePoint.{Order, o123, o132, o213, o231, o312, o321, cornerP, cornerQ, cornerT, orderOf, chosen, share, gapA, gapB, gapG, spline, coordinate, surfacePoint, isDown, rest, upShare, downShare}
 use Rattle.surface.specs.TurnedAway.{noPlace, triangleBeyond, pointRefusal}
@@ -70,14 +70,14 @@ evaluated-coordinate net w h p q x ek ec i =
 pub refused-point : (net : List ℤ) (w h p q : ℕ) {n : ℕ} → n ≡ pointRefusal net w h p q → (n ≡ 0 → ⊥) → (n, []) ≡ pointAnswer net w h p q
 unfolding pointAnswer
 refused-point net w h p q e k =
-    λ t. (e t, cond-false _ (surfacePoint net w h p q) [] (ne-eqb (pointRefusal net w h p q) 0 (λ z. k (e ∙ z))) refl t)
+    λ t. (e t, when-refused (pointRefusal net w h p q) (surfacePoint net w h p q) [] (λ z. k (e ∙ z)) t)
 
 pub accepted-point : (net : List ℤ) (w h p q : ℕ) → 0 ≡ pointRefusal net w h p q → {x y z : ℤ} →
     x ≡ coordinate net w h p q 0 → y ≡ coordinate net w h p q 1 → z ≡ coordinate net w h p q 2 →
     (0, x ∷ y ∷ z ∷ []) ≡ pointAnswer net w h p q
 unfolding pointAnswer
 accepted-point net w h p q e ex ey ez =
-    λ t. (e t, cond-first _ (surfacePoint net w h p q) [] (eq-eqb _ 0 (sym e)) (λ k. ex k ∷ ey k ∷ ez k ∷ []) t)
+    λ t. (e t, ((λ k. ex k ∷ ey k ∷ ez k ∷ []) ∙ when-accepted (pointRefusal net w h p q) (surfacePoint net w h p q) [] (sym e)) t)
 
 -- the viewer's answer is the surface point's, coordinate by coordinate
 pub viewed : (net : List ℤ) (w h p q : ℕ) {told : ℕ × List ℤ} → told ≡ pointAnswer net w h p q →

@@ -19,10 +19,10 @@ use Rattle.surface.specs.declared.answers.PointAnswer.the-variants as po
 use Rattle.surface.specs.declared.answers.ViewAnswer.{ViewAnswer}
 use Rattle.surface.specs.declared.answers.ViewAnswer.the-variants as view
 
--- document 01's number of an answer, 0 where nothing is refused
-abbrev pub answerNumber : Answer → ℕ
-answerNumber answer.Done = 0
-answerNumber (answer.Refused n) = n
+-- document 01's number of an answer, 0 where nothing is refused, and whether the call was carried out
+abbrev pub answerTold : Answer → ℕ × Bool
+answerTold answer.Done = (0, true)
+answerTold (answer.Refused n) = (n, false)
 
 -- the number and the values: x, y, z of a point, and none where it is refused
 abbrev pub pointTold : PointAnswer → ℕ × List ℤ
@@ -32,6 +32,10 @@ pointTold (point.Refused n) = (n, [])
 abbrev pub viewTold : ViewAnswer → ℕ × List Float
 viewTold (view.At p) = (0, p .x ∷ p .y ∷ p .z ∷ [])
 viewTold (view.Refused n) = (n, [])
+
+-- what a Bézier net answers: the first fault, and that it is carried out exactly where there is none
+abbrev pub bezierAnswer : List ℤ → ℕ → ℕ → ℕ → ℕ → Bool → ℕ → ℕ × Bool
+bezierAnswer net w h i j down room = (bezierRefusal net w h i j down room, accepted (bezierRefusal net w h i j down room))
 
 -- the Bézier net laid over the front of the lent output, which a refusal leaves as it was
 unfoldable pub bezierOutput : List ℤ → ℕ → ℕ → ℕ → ℕ → Bool → List ℤ → List ℤ
@@ -62,5 +66,5 @@ unfolding div ofInt
 millimetres-of = (refl, refl)
 
 accepted-and-refused :
-    (answerNumber answer.Done ≡ 0) × (answerNumber (answer.Refused 6) ≡ 6) × (pointTold (point.Refused 3) ≡ (3, []))
+    (answerTold answer.Done ≡ (0, true)) × (answerTold (answer.Refused 6) ≡ (6, false)) × (pointTold (point.Refused 3) ≡ (3, []))
 accepted-and-refused = (refl, refl, refl)

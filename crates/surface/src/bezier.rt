@@ -17,7 +17,7 @@ ghost use Rattle.exact.specs.WeightedSum.{weightedSum, Within};
 ghost use Rattle.exact.specs.Filling.{over, runs};
 ghost use Rattle.net.specs.TurnedAway.{badSize};
 ghost use Rattle.surface.specs.TurnedAway.{noTriangle, bezierRefusal};
-ghost use Rattle.surface.specs.Answers.{answerNumber, bezierOutput};
+ghost use Rattle.surface.specs.Answers.{answerTold, bezierAnswer, bezierOutput};
 ghost use Rattle.surface.specs.Evaluation.{bezierRows, threeAt};
 
 // The 19 points times 36, in document 01's order and in one coordinate, of the values of ck, cn, cm at each corner. The weights of a point sum to
@@ -118,7 +118,7 @@ pub fn bezier_net(
     down: bool,
     out: &mut [i32],
 ) -> Answer
-    ensures { λ r. ⌜ answerNumber r ≡ bezierRefusal (now (net .entry)) w h i j down (length (now (out .entry))) ⌝ }
+    ensures { λ r. ⌜ answerTold r ≡ bezierAnswer (now (net .entry)) w h i j down (length (now (out .entry))) ⌝ }
     ensures { λ r. ⌜ now (out .exit) ≡ bezierOutput (now (net .entry)) w h i j down (now (out .entry)) ⌝ }
 {
     let refusal = bezier_refusal(net, w, h, i, j, down, out.len());

@@ -7,8 +7,8 @@ use native.Mathlib.Omega.{arith}
 use lib.Dec.{ltb, eqb}
 use lib.IntN.{ℤ}
 use lib.ListN.{length}
-use borrow.Author.Tests.{ne-eqb}
-use Rattle.net.proofs.Faults.{cond-true, cond-false}
+use Rattle.net.proofs.Faults.{cond-true, cond-false, when-refused}
+use Rattle.exact.specs.Filling.{over}
 use Rattle.net.specs.Net.{triangleAt}
 use Rattle.net.specs.TurnedAway.{badSize, shortNet, accepted}
 use Rattle.surface.specs.BezierNet.{bezierNumbers}
@@ -98,5 +98,5 @@ module _ {A : Type 0} (net : List ℤ) (w h p q : ℕ) (out result : List A) whe
       (n ≡ pointExport net w h p q (length out)) × (out ≡ outputAfter n result out)
   point-refused {n} {m} e k r = (
     r ∙ ap (withRoom (ltb (length out) 3)) e ∙ point-export net w h p q (length out),
-    cond-false (accepted n) _ _ (ne-eqb n 0 (λ z. still-refused (ltb (length out) 3) m (λ y. k (sym e ∙ y)) (sym r ∙ z))) refl,
+    when-refused n (over result out) out (λ z. still-refused (ltb (length out) 3) m (λ y. k (sym e ∙ y)) (sym r ∙ z)),
   )

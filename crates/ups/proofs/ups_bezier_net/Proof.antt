@@ -4,7 +4,7 @@ use lib.ListN.{length}
 use borrow.Author.Tests.{lt-ltb, le-ltb}
 use borrow.Author.Needs.{needs}
 use Rattle.net.proofs.Faults.{cond-true}
-use Rattle.surface.specs.Answers.{answerNumber}
+use Rattle.surface.specs.Answers.{answerTold}
 use Rattle.ups.proofs.Exports.{no-kind, bezier-outcome}
 use Rattle.ups.proofs.ups_bezier_net.Statement.{statement}
 use Rattle.ups.proofs.ups_bezier_net.Tie as tie
@@ -41,7 +41,7 @@ returns-3 c =
     let a = c .before .before .before .before .before .before .args in
     let told = c .before .before .before .bezier-net .ensures in
     bezier-outcome (a .net .now) (a .w) (a .h) (a .i) (a .j) (a .down) (a .out .now) (le-ltb _ _ (c .before .before .before .before .before .if1 .left))
-    (sym (ap answerNumber (c .enum-told .given .1)) ∙ told .0) (told .1)
+    (λ t. (sym (ap answerTold (c .enum-told .given .1)) ∙ told .0) t .0) (told .1)
 
 same-length-2 : tie.Need-same-length-2
 same-length-2 c = search needs
@@ -51,7 +51,7 @@ returns-4 c =
     let a = c .before .before .before .before .before .before .before .args in
     let told = c .before .before .before .before .bezier-net .ensures in
     bezier-outcome (a .net .now) (a .w) (a .h) (a .i) (a .j) (a .down) (a .out .now) (le-ltb _ _ (c .before .before .before .before .before .before .if1 .left))
-    (sym (ap answerNumber (c .before .answer .given .1)) ∙ told .0) (told .1)
+    (λ t. (sym (ap answerTold (c .before .answer .given .1)) ∙ told .0) t .0) (told .1)
 
 pub ups-bezier-net-spec : {M : Type 1} → statement M
 ups-bezier-net-spec =

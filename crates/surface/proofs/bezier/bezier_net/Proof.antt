@@ -12,7 +12,7 @@ use Rattle.exact.specs.Filling.{over, runs}
 use Rattle.net.specs.Net.{Triangle, triangleAt}
 use Rattle.surface.specs.Evaluation.{valuesIn, threeAt}
 use Rattle.surface.specs.TurnedAway.{bezierRefusal}
-use Rattle.surface.proofs.BezierNets.{GoodTriangle, good-triangle, formed, formed-within, turned-values, pointsOf, points-of-net, accepted-output, refused-output}
+use Rattle.surface.proofs.BezierNets.{GoodTriangle, good-triangle, formed, formed-within, turned-values, pointsOf, points-of-net, accepted-bezier, refused-bezier}
 use Rattle.surface.proofs.bezier.bezier_net.Statement.{statement}
 use Rattle.surface.proofs.bezier.bezier_net.Tie as tie
 
@@ -70,10 +70,7 @@ bezier-refusal-requires : tie.Need-bezier-refusal-requires
 bezier-refusal-requires c κs = search needs
 
 returns : tie.Need-returns
-returns c = (
-  c .before .bezier-refusal .ensures,
-  refused-output _ _ _ _ _ _ _ (λ e. c .if1 .taken (c .before .bezier-refusal .ensures ∙ e)),
-)
+returns c = refused-bezier _ _ _ _ _ _ _ (c .before .bezier-refusal .ensures) (c .if1 .taken)
 
 load-triangle-requires : tie.Need-load-triangle-requires
 load-triangle-requires c κs = good c .lies
@@ -112,13 +109,11 @@ returns-2 c =
     let e = at t in
     let x = points t 0 (o .before .before .before .before .before .coordinate-values .ensures) (o .before .before .before .before .ordinates .ensures) in
     let y = points t 1 (o .before .before .before .coordinate-values2 .ensures) (o .before .before .ordinates2 .ensures) in
-    let z = points t 2 (o .before .coordinate-values3 .ensures) (o .ordinates3 .ensures) in (
-      sym (none e),
-      c .before .write-points .ensures
-          ∙ (λ k. over (runs 19 (threeAt (x k) (y k) (z k))) (out e))
-          ∙ ap (λ (l : List ℤ). over l (out e)) (points-of-net (net e) (w e) (triangle e))
-          ∙ accepted-output (net e) (w e) (h e) (i e) (j e) (down e) (out e) (none e),
-    )
+    let z = points t 2 (o .before .coordinate-values3 .ensures) (o .ordinates3 .ensures) in
+    accepted-bezier (net e) (w e) (h e) (i e) (j e) (down e) (out e) (none e)
+    (c .before .write-points .ensures
+    ∙ (λ k. over (runs 19 (threeAt (x k) (y k) (z k))) (out e))
+    ∙ ap (λ (l : List ℤ). over l (out e)) (points-of-net (net e) (w e) (triangle e)))
 
 pub bezier-net-spec : {M : Type 1} → statement M
 bezier-net-spec =

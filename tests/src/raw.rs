@@ -1,0 +1,43 @@
+//! The library's functions, declared once for the tests and the benchmark.
+
+extern "C" {
+    pub fn ups_vertex_refusal(
+        net: *const i32,
+        len: usize,
+        w: usize,
+        h: usize,
+        i: usize,
+        j: usize,
+    ) -> u32;
+    pub fn ups_bezier_net(
+        net: *const i32,
+        len: usize,
+        w: usize,
+        h: usize,
+        i: usize,
+        j: usize,
+        down: u32,
+        out: *mut i32,
+        out_len: usize,
+    ) -> u32;
+    pub fn ups_surface_point(
+        net: *const i32,
+        len: usize,
+        w: usize,
+        h: usize,
+        p: usize,
+        q: usize,
+        out: *mut i32,
+        out_len: usize,
+    ) -> u32;
+    pub fn ups_view_point(
+        net: *const i32,
+        len: usize,
+        w: usize,
+        h: usize,
+        p: usize,
+        q: usize,
+        out: *mut f64,
+        out_len: usize,
+    ) -> u32;
+}
