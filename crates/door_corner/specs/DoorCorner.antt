@@ -12,8 +12,8 @@ use Rattle.surface.specs.SurfacePoint.{spline, coordinate}
 
 -- the nine numbers of vertex (i, j), where a = 1200i, b = 1200j and c1 has height z: 'x of c1, c2, c3 is 1200i + 600, 1200i - 600, 1200i;
 -- y is 1200j, 1200j + 600, 1200j - 600; z is 0 but for c1 of (0, 0)'
-abbrev vertexNumbers : ℤ → ℤ → ℤ → List ℤ
-vertexNumbers a b z =
+abbrev doorVertex : ℤ → ℤ → ℤ → List ℤ
+doorVertex a b z =
     (a +ℤ pos 600) ∷ b ∷ z
     ∷ (a -ℤ pos 600) ∷ (b +ℤ pos 600) ∷ pos 0
     ∷ a ∷ (b -ℤ pos 600) ∷ pos 0 ∷ []
@@ -21,8 +21,8 @@ vertexNumbers a b z =
 -- the net, 2 by 2, with height z at c1 of (0, 0)
 abbrev pub doorCorner : ℤ → List ℤ
 doorCorner z =
-    vertexNumbers (pos 0) (pos 0) z ++ vertexNumbers (pos 1200) (pos 0) (pos 0)
-    ++ vertexNumbers (pos 0) (pos 1200) (pos 0) ++ vertexNumbers (pos 1200) (pos 1200) (pos 0)
+    doorVertex (pos 0) (pos 0) z ++ doorVertex (pos 1200) (pos 0) (pos 0)
+    ++ doorVertex (pos 0) (pos 1200) (pos 0) ++ doorVertex (pos 1200) (pos 1200) (pos 0)
 
 -- heights of the net: -120 is `negsuc 119`
 abbrev low : ℤ
