@@ -79,10 +79,10 @@ value-size net w i j down l e x h P k =
     field-size net w (corner t P) (corners-fine net w t e P) (corner-ends net w i j l down P) k x h
 
 -- 'one neighbour is P + ek, the other P - em; n is the third index': the next corner is P + ek and the previous one P - em, in both triangles
-back : (n : ℕ) → pos n ≡ pos (n + 1) +ℤ negsuc 0
+pub back : (n : ℕ) → pos n ≡ pos (n + 1) +ℤ negsuc 0
 back n = identity (var 0) (var 0 ⊕ lit (pos 1) ⊕ lit (negsuc 0)) (pos n ∷ []) refl
 
-stays : (n : ℕ) → pos n ≡ pos n +ℤ pos 0
+pub stays : (n : ℕ) → pos n ≡ pos n +ℤ pos 0
 stays n = identity (var 0) (var 0 ⊕ lit (pos 0)) (pos n ∷ []) refl
 
 pub steps-agree : (i j : ℕ) (down : Bool) (P : Index) →

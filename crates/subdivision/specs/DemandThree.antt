@@ -1,0 +1,47 @@
+-- Demand 3, of the definitions: how far the points computed from a refined net are from the exact spline of the starting net, and between which control
+-- values they lie. `demand-three` in proofs/DemandThree.antt proves it.
+use mathlib.Core.Bool.{cond}
+use mathlib.Core.List.{List, [], _∷_}
+use Prim.Native.Nat.{ℕ, _+_, _*_, _^_, _≤_, _<_}
+use lib.IntN.{ℤ, pos, natAbs, _-ℤ_, _*ℤ_}
+use lib.Signed.{_≤ℤ_, leZ}
+use Rattle.exact.specs.Rounding.{rounded}
+use Rattle.net.specs.Net.{Triangle, Field, field}
+use Rattle.surface.specs.BezierNet.{controlsOf, controlList}
+use Rattle.surface.specs.SurfacePoint.{OnGrid, LiesIn, spline}
+use Rattle.subdivision.specs.Refinement.{refinements, sideAfter}
+use Rattle.subdivision.specs.Shares.{OfNet}
+use Rattle.subdivision.specs.Promises.{AcceptedNet}
+
+-- 'the least and the greatest of the nine control values'
+abbrev pub least : List ℤ → ℤ
+least [] = pos 0
+least (z ∷ []) = z
+least (z ∷ y ∷ ys) = cond (leZ z (least (y ∷ ys))) z (least (y ∷ ys))
+
+abbrev pub greatest : List ℤ → ℤ
+greatest [] = pos 0
+greatest (z ∷ []) = z
+greatest (z ∷ y ∷ ys) = cond (leZ z (greatest (y ∷ ys))) (greatest (y ∷ ys)) z
+
+abbrev pub WithinControls : Field → Triangle → ℤ → Type 0
+WithinControls F t z = (least (controlList (controlsOf F t)) ≤ℤ z) × (z ≤ℤ greatest (controlList (controlsOf F t)))
+
+-- 'the net after k steps': the rounded point in one coordinate, from the k times refined field
+abbrev pub refinedCoordinate : Field → ℕ → ℕ → ℕ → ℕ → ℕ → ℤ
+refinedCoordinate F w h k p q = rounded (spline (refinements k F) (sideAfter k w) (sideAfter k h) 1024 p q) 37748736
+
+-- 'edge count 1024 times 2 to the power k', at which place (p, q) of the refined net is place (p, q) of the starting net
+abbrev pub fineEdge : ℕ → ℕ
+fineEdge k = 1024 * 2 ^ k
+
+-- 'within (k+1)/2 units of the exact spline': the spline is whole times 36·D², and the half is cleared by 2
+abbrev pub NearSpline : Field → ℕ → ℕ → ℕ → ℕ → ℕ → ℤ → Type 0
+NearSpline F w h k p q z = (let D = fineEdge k in 2 * natAbs (pos (36 * (D * D)) *ℤ z -ℤ spline F w h D p q) ≤ (k + 1) * (36 * (D * D)))
+
+-- demand 3: coordinate x (0, 1, 2 for x, y, z) of a place of the grid after k steps
+abbrev pub DemandThree : Type 0
+DemandThree =
+    (net : List ℤ) (w h : ℕ) → AcceptedNet net w h → (k p q x : ℕ) → x < 3 → OnGrid 1024 (sideAfter k w) (sideAfter k h) p q →
+    NearSpline (field net w x) w h k p q (refinedCoordinate (field net w x) w h k p q)
+    × ((t : Triangle) → OfNet w h t → LiesIn (fineEdge k) p q t → WithinControls (field net w x) t (refinedCoordinate (field net w x) w h k p q))
