@@ -22,6 +22,7 @@ use Rattle.surface.proofs.CornerForm.{inForm, summed}
 use Rattle.surface.proofs.Evaluation.{parts-value}
 use Rattle.subdivision.specs.Refinement.{same}
 use Rattle.subdivision.specs.Shares.{square, weightK, weightN, weightM, weightOf, controlWeights, Descending}
+use Rattle.subdivision.specs.Promises.{WeightNotNegative, NoShareNoWeight}
 
 -- ---- a sum over the corners in any order is the sum by corner
 
@@ -235,7 +236,7 @@ weight-cases false false a b d C x y z = z
 square-less : (a b : ℕ) → (a - b) * (a - b) ≤ a * a
 square-less a b = let h : a - b ≤ a = omega arith in mul-le-mul h h
 
-pub weight-not-negative : (down : Bool) (a : Index → ℕ) (P l : Index) → pos 0 ≤ℤ weightOf down a P l
+pub weight-not-negative : WeightNotNegative
 weight-not-negative down a P l =
     let x = a P in
     let y = a (next P) in
@@ -256,7 +257,7 @@ weights-not-negative down a =
     w : (P l : Index) → pos 0 ≤ℤ weightOf down a P l
     w = weight-not-negative down a
 
-pub no-share-no-weight : (down : Bool) (a : Index → ℕ) (P l : Index) → a P ≡ 0 → weightOf down a P l ≡ pos 0
+pub no-share-no-weight : NoShareNoWeight
 no-share-no-weight down a P l e =
     let y = a (next P) in
     let z = a (previous P) in

@@ -1,35 +1,34 @@
 -- Where refined values and points lie, for every table that passes the test: a refined value at a vertex of a closed triangle is a mean of the values of that
 -- triangle's own corners, and so everything stays between them at every depth.
-use mathlib.Core.Path.{_≡_, refl, sym, ap, subst, _∙_}
-use mathlib.Core.Bool.{Bool, true, false, cond}
+use mathlib.Core.Path.{_≡_, refl, sym, ap, subst}
+use mathlib.Core.Bool.{Bool, true, false}
 use mathlib.Core.List.{List, [], _∷_, Forall₂, Forall₂·nil, Forall₂·cons}
-use mathlib.Core.Logic.{_⊎_, inl, inr}
+use mathlib.Core.Logic.{inr}
 use Prim.Native.Nat.{ℕ, zero, suc, _+_, _-_, _*_, _^_, _≤_, _<_}
 use native.Mathlib.Nat.{mul-le-mul, mul-one, pow-suc}
 use native.Mathlib.Decide.{decLe}
 use native.Mathlib.Omega.{arith}
 use lib.Dec.{lit<}
-use lib.IntN.{ℤ, pos}
-use lib.ListN.{length, getD}
-use lib.Seq.{getD-drop}
+use lib.IntN.{ℤ}
+use lib.ListN.{length}
 use Rattle.exact.specs.Rounding.{rounded}
-use Rattle.exact.specs.WeightedSum.{weightedSum}
-use Rattle.exact.proofs.WeightedSumLaws.{InRange, NotNegative, sum-same}
+use Rattle.exact.proofs.WeightedSumLaws.{InRange, NotNegative}
 use Rattle.exact.proofs.RoundingLaws.{mean-range}
 use Rattle.net.specs.Net.{Index, one, two, three, Vertex, vertexAt, Triangle, triangleAt, corner, Field}
-use Rattle.surface.specs.BezierNet.{controlsOf, controlList, indexK, isNext}
+use Rattle.surface.specs.BezierNet.{controlsOf, controlList}
 use Rattle.surface.specs.SurfacePoint.{chosen, spline}
 use Rattle.surface.proofs.Cells.{chosen-lies}
-use Rattle.subdivision.specs.Refinement.{kept, along, same, steps, refinedSide, sideAfter}
-use Rattle.subdivision.specs.WeightTable.{Table, kindNumber, weightsAt, passes, six, exactBy, refinedBy}
+use Rattle.subdivision.specs.Refinement.{steps, refinedSide, sideAfter}
+use Rattle.subdivision.specs.WeightTable.{Table, kindNumber, weightsAt, passes, six, refinedBy}
 use Rattle.subdivision.specs.Shares.{OfNet, sharesIn, controlWeights}
 use Rattle.subdivision.specs.Promises.{Between, CornersBetween, NetBetween, MeanOfCorners, VertexMean, VertexBetween, PointBetween, NetStaysBetween}
-use Rattle.subdivision.proofs.Tables.{kind-below, row-length, row-total, row-not-negative, kept-row}
+use Rattle.subdivision.proofs.Tables.{kind-below, row-length, row-total, row-not-negative}
 use Rattle.subdivision.proofs.ControlWeights.{shares-total, weights-not-negative}
 use Rattle.subdivision.proofs.Located.{Located, acrossBy, upBy, located}
 use Rattle.subdivision.proofs.AnyTriangle.{chosen-of-net, spline-by-shares}
+use Rattle.subdivision.proofs.Means.{child-mean}
 use Rattle.subdivision.proofs.SameSpline.{side-at-least}
-use Rattle.subdivision.proofs.Children.{Child, child, child-of-net, source, kindBetween, beginBetween, endBetween, child-corner, in-child}
+use Rattle.subdivision.proofs.Children.{Child, child, child-of-net, source, kindBetween, beginBetween, endBetween, in-child}
 
 -- ---- values between two limits, and their means
 
@@ -43,69 +42,31 @@ mean-terms m n [] (v ∷ vs) e h b = absurd (omega arith)
 mean-terms m n (w ∷ ws) [] e h b = absurd (omega arith)
 mean-terms m n (w ∷ ws) (v ∷ vs) e h b = Forall₂·cons (h .0, inr (b .0)) (mean-terms m n ws vs (omega arith) (h .1) (b .1))
 
--- ---- one step, at the corners of a child
+-- ---- one step
 
-module _ (T : Table) (e : passes T ≡ true) where
-  -- a kept vertex's neighbour does not count
-  nothing-after : (l : Index) (j : ℕ) → getD (weightsAt T 0 l) (3 + j) (pos 0) ≡ pos 0
-  nothing-after l j =
-      sym (getD-drop 3 (weightsAt T 0 l) j (pos 0)) ∙ ap (λ (ws : List ℤ). getD ws j (pos 0)) (kept-row T e l) ∙ zeros j
-    where
-      zeros : (j : ℕ) → getD (pos 0 ∷ pos 0 ∷ pos 0 ∷ []) j (pos 0) ≡ pos 0
-      zeros zero = refl
-      zeros (suc zero) = refl
-      zeros (suc (suc zero)) = refl
-      zeros (suc (suc (suc j))) = refl
+module _ (T : Table) (e : passes T ≡ true) (F : Field) where
+  mean-of-corners : (t : Triangle) (k : Child) (P l : Index) → MeanOfCorners T F t (corner (child t k) P) l
+  mean-of-corners t k P l =
+      let X = source k P .0 in
+      let Y = source k P .1 in
+      record { kind = kindBetween (t .down) X Y; A = beginBetween X Y; B = endBetween X Y; mean = child-mean T e F t k P l }
 
-  kept-alone : (l : Index) (a b b′ : Index → ℤ) → weightedSum (weightsAt T 0 l) (six a b) ≡ weightedSum (weightsAt T 0 l) (six a b′)
-  kept-alone l a b b′ = sum-same (weightsAt T 0 l) (six a b) (six a b′) refl at
-    where
-      at : (i : ℕ) → (getD (weightsAt T 0 l) i (pos 0) ≡ pos 0) ⊎ (getD (six a b) i (pos 0) ≡ getD (six a b′) i (pos 0))
-      at zero = inr refl
-      at (suc zero) = inr refl
-      at (suc (suc zero)) = inr refl
-      at (suc (suc (suc j))) = inl (ap (λ (i : ℕ). getD (weightsAt T 0 l) i (pos 0)) (omega arith) ∙ nothing-after l j)
+  -- so the refined value lies between the values of the corners
+  mean-between : (m n : ℤ) (t : Triangle) (v : Vertex) (l : Index) → MeanOfCorners T F t v l → CornersBetween m n F t → Between m n (refinedBy T F v l)
+  unfolding refinedBy
+  mean-between m n t v l r b =
+      let number = kindNumber (r .kind) in
+      let ws = weightsAt T number l in
+      let A = r .A in
+      let B = r .B in
+      let below = kind-below (r .kind) in
+      subst (λ (z : ℤ). Between m n (rounded z 12)) (sym (r .mean))
+      (mean-range 12 (lit< tt) (row-total T e number below l)
+      (mean-terms m n ws (six (F (corner t A)) (F (corner t B))) (row-length T e number below l) (row-not-negative T e number below l)
+      (b A one, (b A two, (b A three, (b B one, (b B two, (b B three, tt))))))))
 
-  module _ (F : Field) where
-    end-counts : (b : Bool) (k : Index) (a : Index → ℤ) (v v′ : Vertex) (l : Index) →
-        weightedSum (weightsAt T (kindNumber (cond b kept (along k))) l) (six a (F (cond b v v′)))
-        ≡ weightedSum (weightsAt T (kindNumber (cond b kept (along k))) l) (six a (F v′))
-    end-counts true k a v v′ l = kept-alone l a (F v) (F v′)
-    end-counts false k a v v′ l = refl
-
-    -- the corners of a child
-    child-mean : (t : Triangle) (k : Child) (P l : Index) → MeanOfCorners T F t (corner (child t k) P) l
-    unfolding exactBy
-    child-mean t k P l =
-        let b = child-corner t k P in
-        let X = source k P .0 in
-        let Y = source k P .1 in
-        record {
-          kind = kindBetween (t .down) X Y;
-          A = beginBetween X Y;
-          B = endBetween X Y;
-          mean =
-              (λ i. weightedSum (weightsAt T (kindNumber (b .kind i)) l) (six (F (b .begins i)) (F (b .ends i))))
-              ∙ end-counts (same X Y) (indexK (t .down) (cond (isNext X Y) X Y)) (F (corner t (beginBetween X Y)))
-              (vertexAt (corner t X .column + 1) (corner t X .row)) (corner t (endBetween X Y)) l;
-        }
-
-    -- so the refined value lies between the values of the corners
-    mean-between : (m n : ℤ) (t : Triangle) (v : Vertex) (l : Index) → MeanOfCorners T F t v l → CornersBetween m n F t → Between m n (refinedBy T F v l)
-    unfolding refinedBy
-    mean-between m n t v l r b =
-        let number = kindNumber (r .kind) in
-        let ws = weightsAt T number l in
-        let A = r .A in
-        let B = r .B in
-        let below = kind-below (r .kind) in
-        subst (λ (z : ℤ). Between m n (rounded z 12)) (sym (r .mean))
-        (mean-range 12 (lit< tt) (row-total T e number below l)
-        (mean-terms m n ws (six (F (corner t A)) (F (corner t B))) (row-length T e number below l) (row-not-negative T e number below l)
-        (b A one, (b A two, (b A three, (b B one, (b B two, (b B three, tt))))))))
-
-    child-between : (m n : ℤ) (t : Triangle) (k : Child) → CornersBetween m n F t → CornersBetween m n (refinedBy T F) (child t k)
-    child-between m n t k b P l = mean-between m n t (corner (child t k) P) l (child-mean t k P l) b
+  child-between : (m n : ℤ) (t : Triangle) (k : Child) → CornersBetween m n F t → CornersBetween m n (refinedBy T F) (child t k)
+  child-between m n t k b P l = mean-between m n t (corner (child t k) P) l (mean-of-corners t k P l) b
 
 -- ---- points
 
@@ -181,7 +142,7 @@ pub vertex-mean : VertexMean
 vertex-mean T e F u v t lies l =
     let c = in-child 1 u v t (sharesIn 2 u v t) (located 2 u v t lies) in
     let r = corner-at u v (child t (c .which)) (c .shares) (c .lies) in
-    subst (λ (x : Vertex). MeanOfCorners T F t x l) (r .is) (child-mean T e F t (c .which) (r .which) l)
+    subst (λ (x : Vertex). MeanOfCorners T F t x l) (r .is) (mean-of-corners T e F t (c .which) (r .which) l)
 
 -- and so they lie between them
 pub vertex-between : VertexBetween

@@ -9,19 +9,21 @@ use lib.IntN.{ℤ, pos, _*ℤ_}
 use Rattle.exact.specs.WeightedSum.{weightedSum}
 use Rattle.exact.proofs.Integers.{one-times}
 use Rattle.exact.proofs.Expressions.{Expr, var, lit, _⊕_, _⊗_, value, identity}
-use Rattle.net.specs.Net.{Index, one, two, three, Vertex, vertexAt, Triangle, triangleAt, corner, Field}
-use Rattle.surface.specs.BezierNet.{Controls, controlsOf, controlList, indexK, isNext}
+use Rattle.net.specs.Net.{Index, one, two, three, Triangle, triangleAt, corner, Field}
+use Rattle.surface.specs.BezierNet.{Controls, controlsOf, controlList}
 use Rattle.surface.specs.SurfacePoint.{o123, OnGrid, chosen, spline}
 use Rattle.surface.proofs.CornerForm.{inForm, summed}
 use Rattle.surface.proofs.Cells.{chosen-lies}
-use Rattle.subdivision.specs.Refinement.{kept, along, ruleBy, exactRefinement, exactRefinements, same, refinedSide, sideAfter}
+use Rattle.subdivision.specs.Refinement.{ruleBy, exactRefinement, exactRefinements, same, refinedSide, sideAfter}
+use Rattle.subdivision.specs.WeightTable.{weights, weights-pass}
 use Rattle.subdivision.specs.Shares.{OfNet, sharesIn, square, controlWeights}
 use Rattle.subdivision.specs.Promises.{SameSpline, SameSplines}
-use Rattle.subdivision.proofs.Tables.{ruleE}
+use Rattle.subdivision.proofs.Tables.{ruleE, our-rule, our-table}
 use Rattle.subdivision.proofs.ControlWeights.{nine, squareE, byShares, bySharesE, by-shares}
 use Rattle.subdivision.proofs.Located.{Located, located}
 use Rattle.subdivision.proofs.AnyTriangle.{environment, chosen-of-net, spline-by-shares}
-use Rattle.subdivision.proofs.Children.{Child, at, middle, childDown, child, child-of-net, source, kindBetween, beginBetween, endBetween, child-corner, sharesFrom, in-child}
+use Rattle.subdivision.proofs.Means.{child-mean}
+use Rattle.subdivision.proofs.Children.{Child, at, middle, childDown, child, child-of-net, source, kindBetween, beginBetween, endBetween, sharesFrom, in-child}
 
 -- ---- the control values of a child, times 12, from those of its triangle
 
@@ -31,22 +33,14 @@ childControls down k c P =
     let Y = source k P .1 in
     ruleBy (kindBetween down X Y) (c (beginBetween X Y)) (c (endBetween X Y)))
 
--- the end does not count where the vertex is kept
-end-counts : (b : Bool) (k : Index) (F : Field) (a : Index → ℤ) (v v′ : Vertex) (l : Index) →
-    ruleBy (cond b kept (along k)) a (F (cond b v v′)) l ≡ ruleBy (cond b kept (along k)) a (F v′) l
-end-counts true k F a v v′ l = refl
-end-counts false k F a v v′ l = refl
-
 child-controls : (F : Field) (t : Triangle) (k : Child) (P l : Index) →
     controlsOf (exactRefinement F) (child t k) P l ≡ childControls (t .down) k (controlsOf F t) P l
-unfolding exactRefinement
 child-controls F t k P l =
-    let b = child-corner t k P in
     let X = source k P .0 in
     let Y = source k P .1 in
-    (λ i. ruleBy (b .kind i) (F (b .begins i)) (F (b .ends i)) l)
-    ∙ end-counts (same X Y) (indexK (t .down) (cond (isNext X Y) X Y)) F (F (corner t (beginBetween X Y)))
-    (vertexAt (corner t X .column + 1) (corner t X .row)) (corner t (endBetween X Y)) l
+    (λ i. sym (our-table F) i (corner (child t k) P) l)
+    ∙ child-mean weights weights-pass F t k P l
+    ∙ our-rule (kindBetween (t .down) X Y) (F (corner t (beginBetween X Y))) (F (corner t (endBetween X Y))) l
 
 child-is-down : (t : Triangle) (k : Child) → child t k .down ≡ childDown (t .down) k
 child-is-down t k = by (t .down) k

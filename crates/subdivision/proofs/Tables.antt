@@ -13,10 +13,11 @@ use Rattle.exact.specs.WeightedSum.{weightedSum, total}
 use Rattle.exact.proofs.Parts.{integers}
 use Rattle.exact.proofs.Expressions.{Expr, var, lit, _⊕_, _⊗_, identity}
 use Rattle.exact.proofs.WeightedSumLaws.{NotNegative, sumFrom}
-use Rattle.net.specs.Net.{Index, one, two, three, next, previous, rank, Vertex, entry, Field, field, controlTriangle}
+use Rattle.net.specs.Net.{Index, one, two, three, next, previous, rank, Vertex, entry, field, controlTriangle}
 use Rattle.subdivision.specs.Refinement.{Kind, kept, along, kindOf, beginOf, endOf, same, ruleBy, exactRefinement, refinement}
 use Rattle.subdivision.specs.WeightTable.{Table, kindNumber, weightsAt, sum, every, goodRow, goodKeptRow, goodKind, passes}
 use Rattle.subdivision.specs.WeightTable.{six, exactBy, refinedBy, refinedNumber, refinedPoint, refinedTriangle, weights}
+use Rattle.subdivision.specs.Promises.{OurTable, OurRefinement}
 
 -- ---- from the test of a table to its rows
 
@@ -140,11 +141,11 @@ our-rule (along three) a b one = identity (byTable (along three) one) (byRule (a
 our-rule (along three) a b two = identity (byTable (along three) two) (byRule (along three) two) (six a b) refl
 our-rule (along three) a b three = identity (byTable (along three) three) (byRule (along three) three) (six a b) refl
 
-pub our-table : (F : Field) → exactBy weights F ≡ exactRefinement F
+pub our-table : OurTable
 unfolding exactBy exactRefinement
 our-table F = λ t v l. our-rule (kindOf v) (F (beginOf v)) (F (endOf v)) l t
 
-pub our-refinement : (F : Field) → refinedBy weights F ≡ refinement F
+pub our-refinement : OurRefinement
 unfolding refinedBy refinement
 our-refinement F = λ t v l. rounded (our-table F t v l) 12
 

@@ -1,9 +1,10 @@
 -- Demand 3, of the definitions: how far the points computed from a refined net are from the exact spline of the starting net, and between which control
 -- values they lie. `demand-three` in proofs/DemandThree.antt proves it.
+use mathlib.Core.Path.{_≡_, refl}
 use mathlib.Core.Bool.{cond}
 use mathlib.Core.List.{List, [], _∷_}
 use Prim.Native.Nat.{ℕ, _+_, _*_, _^_, _≤_, _<_}
-use lib.IntN.{ℤ, pos, natAbs, _-ℤ_, _*ℤ_}
+use lib.IntN.{ℤ, pos, negsuc, natAbs, _-ℤ_, _*ℤ_}
 use lib.Signed.{_≤ℤ_, leZ}
 use Rattle.exact.specs.Rounding.{rounded}
 use Rattle.net.specs.Net.{Triangle, Field, field}
@@ -27,7 +28,7 @@ greatest (z ∷ y ∷ ys) = cond (leZ z (greatest (y ∷ ys))) (greatest (y ∷ 
 abbrev pub WithinControls : Field → Triangle → ℤ → Type 0
 WithinControls F t z = (least (controlList (controlsOf F t)) ≤ℤ z) × (z ≤ℤ greatest (controlList (controlsOf F t)))
 
--- 'the net after k steps': the rounded point in one coordinate, from the k times refined field
+-- the rounded point of the k times refined field, in one coordinate; 37,748,736 is 36·1024²
 abbrev pub refinedCoordinate : Field → ℕ → ℕ → ℕ → ℕ → ℕ → ℤ
 refinedCoordinate F w h k p q = rounded (spline (refinements k F) (sideAfter k w) (sideAfter k h) 1024 p q) 37748736
 
@@ -45,3 +46,7 @@ DemandThree =
     (net : List ℤ) (w h : ℕ) → AcceptedNet net w h → (k p q x : ℕ) → x < 3 → OnGrid 1024 (sideAfter k w) (sideAfter k h) p q →
     NearSpline (field net w x) w h k p q (refinedCoordinate (field net w x) w h k p q)
     × ((t : Triangle) → OfNet w h t → LiesIn (fineEdge k) p q t → WithinControls (field net w x) t (refinedCoordinate (field net w x) w h k p q))
+
+-- worked cases: of 3, -2 and 5; six steps
+limits : (least (pos 3 ∷ negsuc 1 ∷ pos 5 ∷ []) ≡ negsuc 1) × (greatest (pos 3 ∷ negsuc 1 ∷ pos 5 ∷ []) ≡ pos 5) × (fineEdge 6 ≡ 65536)
+limits = (refl, refl, refl)

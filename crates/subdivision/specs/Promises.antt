@@ -1,6 +1,6 @@
 -- What refining keeps, of the definitions: the statements, each with the name of its proof. The half in a distance is cleared by 2.
 use mathlib.Core.Path.{_≡_}
-use mathlib.Core.Bool.{true, false}
+use mathlib.Core.Bool.{Bool, true, false}
 use mathlib.Core.List.{List}
 use Prim.Native.Nat.{ℕ, _+_, _*_, _^_, _≤_, _<_}
 use lib.IntN.{ℤ, pos, natAbs, _+ℤ_, _-ℤ_, _*ℤ_}
@@ -12,11 +12,11 @@ use Rattle.net.specs.Net.{Index, Vertex, vertexAt, stepColumn, stepRow, Triangl
 use Rattle.net.specs.TurnedAway.{badSize, shortNet, anyBeyond}
 use Rattle.surface.specs.BezierNet.{controlsOf, controlList}
 use Rattle.surface.specs.SurfacePoint.{OnGrid, LiesIn, Order, valueIn, spline}
-use Rattle.subdivision.specs.Refinement.{Kind, kept, along, kindOf, beginOf, endOf, steps, exactRefinement, refinements, exactRefinements, refinedSide, sideAfter}
-use Rattle.subdivision.specs.WeightTable.{Table, kindNumber, weightsAt, passes, six, exactBy, refinedBy}
-use Rattle.subdivision.specs.Shares.{OfNet, sharesIn, Descending, controlWeights}
+use Rattle.subdivision.specs.Refinement.{Kind, kept, along, kindOf, beginOf, endOf, steps, exactRefinement, refinement, refinements, exactRefinements, refinedSide, sideAfter}
+use Rattle.subdivision.specs.WeightTable.{Table, kindNumber, weightsAt, passes, six, exactBy, refinedBy, weights}
+use Rattle.subdivision.specs.Shares.{OfNet, sharesIn, Descending, weightOf, controlWeights}
 
--- ---- where refined vertices come from
+-- ---- one refinement
 
 -- a kept vertex is at twice its old column and row; a new vertex halves the edge from A to B = A + ek (`comes-from`)
 abbrev pub ComesFrom : Vertex → Kind → Vertex → Vertex → Type 0
@@ -30,6 +30,13 @@ ComesFrom v (along k) A B =
 abbrev pub VerticesComeFrom : Type 0
 VerticesComeFrom = (v : Vertex) → ComesFrom v (kindOf v) (beginOf v) (endOf v)
 
+-- our table is document 01's rule: the exact refinement (`our-table`), and the rounded one (`our-refinement`)
+abbrev pub OurTable : Type 0
+OurTable = (F : Field) → exactBy weights F ≡ exactRefinement F
+
+abbrev pub OurRefinement : Type 0
+OurRefinement = (F : Field) → refinedBy weights F ≡ refinement F
+
 -- ---- the exact spline
 
 -- in every triangle that a place lies in, and under every order of equal shares, document 01's formula gives the same value (`any-triangle`)
@@ -38,8 +45,8 @@ AnyTriangle =
     (F : Field) (w h D p q : ℕ) (t : Triangle) (o : Order) → 0 < D → OfNet w h t → LiesIn D p q t → Descending (sharesIn D p q t) o →
     valueIn (t .down) (controlsOf F t) o (sharesIn D p q t) ≡ spline F w h D p q
 
--- in each triangle that a place lies in, the exact value is a weighted sum of the nine control values (`spline-by-weights`); the weights are at least 0
--- (`weight-not-negative`), sum to 36·D² (`weights-total`), and those of a corner with share 0 are 0 (`no-share-no-weight`)
+-- in each triangle that a place lies in, the exact value is a weighted sum of the nine control values (`spline-by-weights`), whose weights sum to 36·D²
+-- (`weights-total`), are at least 0 (`weight-not-negative`), and are 0 at a corner with share 0 (`no-share-no-weight`)
 abbrev pub SplineByWeights : Type 0
 SplineByWeights =
     (F : Field) (w h D p q : ℕ) (t : Triangle) → 0 < D → OfNet w h t → LiesIn D p q t →
@@ -47,6 +54,12 @@ SplineByWeights =
 
 abbrev pub WeightsTotal : Type 0
 WeightsTotal = (D p q : ℕ) (t : Triangle) → LiesIn D p q t → total (controlWeights (t .down) (sharesIn D p q t)) ≡ pos (36 * (D * D))
+
+abbrev pub WeightNotNegative : Type 0
+WeightNotNegative = (down : Bool) (a : Index → ℕ) (P l : Index) → pos 0 ≤ℤ weightOf down a P l
+
+abbrev pub NoShareNoWeight : Type 0
+NoShareNoWeight = (down : Bool) (a : Index → ℕ) (P l : Index) → a P ≡ 0 → weightOf down a P l ≡ pos 0
 
 -- 'Exact refinement gives the same spline': one step (`same-spline`). The refined field is 12 times the exact one, and the spline at edge count D is times 36·D²:
 -- 12·36·D² is 3·36·(2D)².

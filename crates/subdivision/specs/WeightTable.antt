@@ -93,3 +93,6 @@ weights-pass = refl
 -- worked cases: control 2 on an edge along e1 is (2a1 + a2 + b2)/4; a table whose kept row looks at the neighbour does not pass
 edge-row : weightsAt weights (kindNumber (along one)) two ≡ map pos (row6 6 3 0 0 3 0)
 edge-row = refl
+
+neighbour-row : passes ((row6 7 2 2 1 0 0 ∷ row6 2 8 2 0 0 0 ∷ row6 2 2 8 0 0 0 ∷ []) ∷ drop 1 weights) ≡ false
+neighbour-row = refl
