@@ -6,9 +6,10 @@ use mathlib.Core.List.{List, [], _∷_, _++_, map}
 use Prim.Native.Nat.{ℕ}
 use lib.IntN.{ℤ, pos, negsuc, _+ℤ_, _-ℤ_, _*ℤ_}
 use Rattle.exact.specs.Rounding.{rounded, floorQuotient}
-use Rattle.net.specs.Net.{triangleAt, controlPoint, controlTriangle, field}
+use Rattle.net.specs.Net.{one, two, three, vertexAt, triangleAt, controlPoint, controlTriangle, field}
 use Rattle.surface.specs.BezierNet.{controlsOf, bezierPoints}
 use Rattle.surface.specs.SurfacePoint.{spline, coordinate}
+use Rattle.subdivision.specs.Refinement.{refinement, exactRefinement}
 
 -- the nine numbers of vertex (i, j), where a = 1200i, b = 1200j and c1 has height z: 'x of c1, c2, c3 is 1200i + 600, 1200i - 600, 1200i;
 -- y is 1200j, 1200j + 600, 1200j - 600; z is 0 but for c1 of (0, 0)'
@@ -40,6 +41,10 @@ exactAt z p q = spline (field (doorCorner z) 2 2) 2 2 1024 p q
 abbrev bezierZ : ℤ → List ℤ
 bezierZ z = bezierPoints false (controlsOf (field (doorCorner z) 2 2) (triangleAt 0 0 false))
 
+-- z of the control triangle at vertex (i, j) of the net refined once
+abbrev refinedZ : ℤ → ℕ → ℕ → List ℤ
+refinedZ z i j = map (refinement (field (doorCorner z) 2 2) (vertexAt i j)) (one ∷ two ∷ three ∷ [])
+
 -- whole numbers of document 01's list
 abbrev told : List ℕ → List ℤ
 told ns = map pos ns
@@ -56,10 +61,13 @@ cases =
     ∷ ((pos 2 *ℤ exactAt (pos 120) 256 256) ∷ [], (pos 95 *ℤ pos 37748736) ∷ [])
     ∷ (zAt (pos 120) 256 256 ∷ [], pos 48 ∷ [])
     ∷ (zAt low 256 256 ∷ [], negsuc 46 ∷ [])
+    ∷ (refinedZ (pos 120) 0 0, told (80 ∷ 20 ∷ 20 ∷ []))
+    ∷ (refinedZ (pos 120) 1 0, told (0 ∷ 60 ∷ 60 ∷ []))
+    ∷ (refinedZ (pos 120) 0 1, told (30 ∷ 0 ∷ 60 ∷ []))
     ∷ (bezierZ (pos 120), told (1440 ∷ 0 ∷ 0 ∷ 2880 ∷ 2160 ∷ 0 ∷ 0 ∷ 0 ∷ 0 ∷ 2880 ∷ 0 ∷ 0 ∷ 1440 ∷ 1080 ∷ 0 ∷ 1440 ∷ 1440 ∷ 0 ∷ 960 ∷ []))
     ∷ []
 
 -- every case holds
 pub marked-cases : map (λ (c : Case). c .0) cases ≡ map (λ (c : Case). c .1) cases
-unfolding cases coordinate spline rounded floorQuotient bezierPoints controlTriangle controlPoint
+unfolding cases coordinate spline refinement exactRefinement rounded floorQuotient bezierPoints controlTriangle controlPoint
 marked-cases = refl

@@ -109,13 +109,13 @@ even-next : (i : ℕ) → Halved (2 * i + 1 + 1) false (i + 1)
 even-next i = record { parity = le-ltb (2 * ((2 * i + 1 + 1) / 2)) (2 * i + 1 + 1) (omega arith); half-of = omega arith }
 
 -- what a refined vertex comes from
-pub record Between (v : Vertex) (k : Kind) (A B : Vertex) : Type 0 where
+pub record HalvedFrom (v : Vertex) (k : Kind) (A B : Vertex) : Type 0 where
   pub kind : kindOf v ≡ k
   pub begins : beginOf v ≡ A
   pub ends : endOf v ≡ B
 
-between : {m n i j : ℕ} {a b : Bool} → Halved m a i → Halved n b j → Between (vertexAt m n) (kindBy a b) (beginBy (kindBy a b) i j) (endBy (kindBy a b) i j)
-between h k =
+halved-from : {m n i j : ℕ} {a b : Bool} → Halved m a i → Halved n b j → HalvedFrom (vertexAt m n) (kindBy a b) (beginBy (kindBy a b) i j) (endBy (kindBy a b) i j)
+halved-from h k =
     record {
       kind = λ t. kindBy (h .parity t) (k .parity t);
       begins = λ t. beginBy (kindBy (h .parity t) (k .parity t)) (h .half-of t) (k .half-of t);
@@ -125,38 +125,38 @@ between h k =
 pub child-corner : (t : Triangle) (c : Child) (P : Index) →
     (let X = source c P .0 in
     let Y = source c P .1 in
-    Between (corner (child t c) P) (kindBetween (t .down) X Y) (corner t (beginBetween X Y)) (endVertex t X Y))
+    HalvedFrom (corner (child t c) P) (kindBetween (t .down) X Y) (corner t (beginBetween X Y)) (endVertex t X Y))
 child-corner t c P = by (t .down) (t .column) (t .row) c P
   where
     by : (down : Bool) (i j : ℕ) (c : Child) (P : Index) →
         (let X = source c P .0 in
         let Y = source c P .1 in
         let t = triangleAt i j down in
-        Between (corner (child t c) P) (kindBetween down X Y) (corner t (beginBetween X Y)) (endVertex t X Y))
-    by false i j (at one) one = between (even i) (even j)
-    by false i j (at one) two = between (odd i) (even j)
-    by false i j (at one) three = between (even i) (odd j)
-    by false i j (at two) one = between (odd i) (even j)
-    by false i j (at two) two = between (even-next i) (even j)
-    by false i j (at two) three = between (odd i) (odd j)
-    by false i j (at three) one = between (even i) (odd j)
-    by false i j (at three) two = between (odd i) (odd j)
-    by false i j (at three) three = between (even i) (even-next j)
-    by false i j middle one = between (odd i) (even j)
-    by false i j middle two = between (even i) (odd j)
-    by false i j middle three = between (odd i) (odd j)
-    by true i j (at one) one = between (even-next i) (even j)
-    by true i j (at one) two = between (odd i) (odd j)
-    by true i j (at one) three = between (even-next i) (odd j)
-    by true i j (at two) one = between (odd i) (odd j)
-    by true i j (at two) two = between (even i) (even-next j)
-    by true i j (at two) three = between (odd i) (even-next j)
-    by true i j (at three) one = between (even-next i) (odd j)
-    by true i j (at three) two = between (odd i) (even-next j)
-    by true i j (at three) three = between (even-next i) (even-next j)
-    by true i j middle one = between (odd i) (odd j)
-    by true i j middle two = between (even-next i) (odd j)
-    by true i j middle three = between (odd i) (even-next j)
+        HalvedFrom (corner (child t c) P) (kindBetween down X Y) (corner t (beginBetween X Y)) (endVertex t X Y))
+    by false i j (at one) one = halved-from (even i) (even j)
+    by false i j (at one) two = halved-from (odd i) (even j)
+    by false i j (at one) three = halved-from (even i) (odd j)
+    by false i j (at two) one = halved-from (odd i) (even j)
+    by false i j (at two) two = halved-from (even-next i) (even j)
+    by false i j (at two) three = halved-from (odd i) (odd j)
+    by false i j (at three) one = halved-from (even i) (odd j)
+    by false i j (at three) two = halved-from (odd i) (odd j)
+    by false i j (at three) three = halved-from (even i) (even-next j)
+    by false i j middle one = halved-from (odd i) (even j)
+    by false i j middle two = halved-from (even i) (odd j)
+    by false i j middle three = halved-from (odd i) (odd j)
+    by true i j (at one) one = halved-from (even-next i) (even j)
+    by true i j (at one) two = halved-from (odd i) (odd j)
+    by true i j (at one) three = halved-from (even-next i) (odd j)
+    by true i j (at two) one = halved-from (odd i) (odd j)
+    by true i j (at two) two = halved-from (even i) (even-next j)
+    by true i j (at two) three = halved-from (odd i) (even-next j)
+    by true i j (at three) one = halved-from (even-next i) (odd j)
+    by true i j (at three) two = halved-from (odd i) (even-next j)
+    by true i j (at three) three = halved-from (even-next i) (even-next j)
+    by true i j middle one = halved-from (odd i) (odd j)
+    by true i j middle two = halved-from (even-next i) (odd j)
+    by true i j middle three = halved-from (odd i) (even-next j)
 
 -- ---- shares
 
@@ -187,18 +187,18 @@ abbrev sharesOf : ℕ → (Index → ℕ) → Child → Index → ℕ
 sharesOf D S (at X) = lowered D S X
 sharesOf D S middle = opposite D S
 
-abbrev Fits : ℕ → (Index → ℕ) → Child → Type 0
-Fits D S (at X) = D ≤ S X
-Fits D S middle = (S one ≤ D) × (S two ≤ D) × (S three ≤ D)
+abbrev HasPlace : ℕ → (Index → ℕ) → Child → Type 0
+HasPlace D S (at X) = D ≤ S X
+HasPlace D S middle = (S one ≤ D) × (S two ≤ D) × (S three ≤ D)
 
 module _ (D p q : ℕ) (S : Index → ℕ) (e : S one + S two + S three ≡ 2 * D) where
-  whole-of : (c : Child) → Fits D S c → sharesOf D S c one + sharesOf D S c two + sharesOf D S c three ≡ D
+  whole-of : (c : Child) → HasPlace D S c → sharesOf D S c one + sharesOf D S c two + sharesOf D S c three ≡ D
   whole-of (at one) f = omega (arith, e, f)
   whole-of (at two) f = omega (arith, e, f)
   whole-of (at three) f = omega (arith, e, f)
   whole-of middle f = omega (arith, e, f .0, f .1, f .2)
 
-  shares-from : (c : Child) → Fits D S c → (P : Index) → sharesFrom c (sharesOf D S c) P ≡ S P
+  shares-from : (c : Child) → HasPlace D S c → (P : Index) → sharesFrom c (sharesOf D S c) P ≡ S P
   shares-from (at one) f one = omega (arith, e, f)
   shares-from (at one) f two = refl
   shares-from (at one) f three = refl
@@ -213,7 +213,7 @@ module _ (D p q : ℕ) (S : Index → ℕ) (e : S one + S two + S three ≡ 2 * 
   shares-from middle f three = omega (arith, e, f .0, f .1, f .2)
 
   module _ (i j : ℕ) where
-    across-of : (down : Bool) (c : Child) → Fits D S c → p ≡ 2 * D * i + acrossBy down S →
+    across-of : (down : Bool) (c : Child) → HasPlace D S c → p ≡ 2 * D * i + acrossBy down S →
         p ≡ D * childBy down c i j .column + acrossBy (childBy down c i j .down) (sharesOf D S c)
     across-of false (at one) f a = omega (arith, a)
     across-of false (at two) f a = omega (arith, a, f)
@@ -224,7 +224,7 @@ module _ (D p q : ℕ) (S : Index → ℕ) (e : S one + S two + S three ≡ 2 * 
     across-of true (at three) f a = omega (arith, a, f)
     across-of true middle f a = omega (arith, a, e, f .0, f .1, f .2)
 
-    up-of : (down : Bool) (c : Child) → Fits D S c → q ≡ 2 * D * j + upBy down S →
+    up-of : (down : Bool) (c : Child) → HasPlace D S c → q ≡ 2 * D * j + upBy down S →
         q ≡ D * childBy down c i j .row + upBy (childBy down c i j .down) (sharesOf D S c)
     up-of false (at one) f a = omega (arith, a)
     up-of false (at two) f a = omega (arith, a)
@@ -238,7 +238,7 @@ module _ (D p q : ℕ) (S : Index → ℕ) (e : S one + S two + S three ≡ 2 * 
 pub in-child : (D p q : ℕ) (t : Triangle) (S : Index → ℕ) → Located (2 * D) p q t S → InChild D p q t S
 in-child D p q t S l = go (decLe D (S one)) (decLe D (S two)) (decLe D (S three))
   where
-    here : (c : Child) → Fits D S c → InChild D p q t S
+    here : (c : Child) → HasPlace D S c → InChild D p q t S
     here c f =
         record {
           which = c;
