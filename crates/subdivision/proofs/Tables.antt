@@ -5,7 +5,7 @@ use mathlib.Core.List.{List, [], _∷_, map}
 use Prim.Native.Nat.{ℕ, zero, suc, _+_, _<_}
 use native.Mathlib.Omega.{arith}
 use lib.Dec.{T, eqb, lit<}
-use lib.IntN.{ℤ, pos, _+ℤ_, _*ℤ_}
+use lib.IntN.{ℤ, pos, _+ℤ_}
 use lib.ListN.{length, getD, drop, replicate, length-map, length-drop}
 use borrow.Author.Tests.{eqb-true}
 use Rattle.exact.specs.Rounding.{rounded}
@@ -18,7 +18,7 @@ use Rattle.net.specs.Net.{Index, one, two, three, next, previous, rank, Vertex,
 use Rattle.subdivision.specs.Refinement.{Kind, kept, along, kindOf, beginOf, endOf, same, ruleBy, exactRefinement, refinement}
 use Rattle.subdivision.specs.WeightTable.{Table, kindNumber, weightsAt, sum, every, goodRow, goodKeptRow, goodKind, passes}
 use Rattle.subdivision.specs.WeightTable.{six, exactBy, refinedBy, refinedNumber, refinedPoint, refinedTriangle, weights}
-use Rattle.subdivision.specs.Promises.{KeptQuotient, NewQuotient, OurTable, OurRefinement}
+use Rattle.subdivision.specs.Promises.{Quotients, OurTable, OurRefinement}
 
 -- ---- from the test of a table to its rows
 
@@ -152,17 +152,9 @@ our-refinement F = λ t v l. rounded (our-table F t v l) 12
 
 -- ---- rounding over 12 is rounding of document 01's own quotients
 
-pub kept-quotient : KeptQuotient
-kept-quotient c k = rounded-scale 2 (pos 4 *ℤ c k +ℤ c (next k) +ℤ c (previous k)) 6 (lit< tt) (lit< tt)
-
-pub new-quotient : NewQuotient
-new-quotient k a b l = by (same l k)
-  where
-    by : (x : Bool) →
-        rounded (cond x (pos 6 *ℤ (b (next k) +ℤ b (previous k))) (pos 3 *ℤ (pos 2 *ℤ a k +ℤ a l +ℤ b l))) 12
-        ≡ cond x (rounded (b (next k) +ℤ b (previous k)) 2) (rounded (pos 2 *ℤ a k +ℤ a l +ℤ b l) 4)
-    by true = rounded-scale 6 (b (next k) +ℤ b (previous k)) 2 (lit< tt) (lit< tt)
-    by false = rounded-scale 3 (pos 2 *ℤ a k +ℤ a l +ℤ b l) 4 (lit< tt) (lit< tt)
+pub quotients : Quotients
+quotients z =
+    (rounded-scale 2 z 6 (lit< tt) (lit< tt), rounded-scale 6 z 2 (lit< tt) (lit< tt), rounded-scale 3 z 4 (lit< tt) (lit< tt))
 
 -- ---- the rule on control triangles is one refinement of a stored net
 

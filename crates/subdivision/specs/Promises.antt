@@ -1,6 +1,6 @@
 -- What refining keeps, of the definitions: the statements, each with the name of its proof. The half in a distance is cleared by 2.
 use mathlib.Core.Path.{_≡_}
-use mathlib.Core.Bool.{Bool, true, false, cond}
+use mathlib.Core.Bool.{Bool, true, false}
 use mathlib.Core.List.{List}
 use Prim.Native.Nat.{ℕ, _+_, _*_, _^_, _≤_, _<_}
 use lib.IntN.{ℤ, pos, natAbs, _+ℤ_, _-ℤ_, _*ℤ_}
@@ -8,11 +8,11 @@ use lib.ListN.{take}
 use lib.Signed.{_≤ℤ_}
 use Rattle.exact.specs.Rounding.{rounded}
 use Rattle.exact.specs.WeightedSum.{weightedSum, total}
-use Rattle.net.specs.Net.{Index, next, previous, Vertex, vertexAt, stepColumn, stepRow, Triangle, corner, Field, numbers, field}
+use Rattle.net.specs.Net.{Index, Vertex, vertexAt, stepColumn, stepRow, Triangle, corner, Field, numbers, field}
 use Rattle.net.specs.TurnedAway.{badSize, shortNet, anyBeyond}
 use Rattle.surface.specs.BezierNet.{controlsOf, controlList}
 use Rattle.surface.specs.SurfacePoint.{OnGrid, LiesIn, Order, valueIn, spline}
-use Rattle.subdivision.specs.Refinement.{Kind, kept, along, kindOf, beginOf, endOf, same, keptControl, newControl, steps, exactRefinement, refinement, refinements, exactRefinements, refinedSide, sideAfter}
+use Rattle.subdivision.specs.Refinement.{Kind, kept, along, kindOf, beginOf, endOf, steps, exactRefinement, refinement, refinements, exactRefinements, refinedSide, sideAfter}
 use Rattle.subdivision.specs.WeightTable.{Table, kindNumber, weightsAt, passes, six, exactBy, refinedBy, weights}
 use Rattle.subdivision.specs.Shares.{OfNet, sharesIn, Descending, weightOf, controlWeights}
 
@@ -30,14 +30,10 @@ ComesFrom v (along k) A B =
 abbrev pub VerticesComeFrom : Type 0
 VerticesComeFrom = (v : Vertex) → ComesFrom v (kindOf v) (beginOf v) (endOf v)
 
--- rounding over 12 is rounding of document 01's own quotients, over 6, 2 and 4 (`kept-quotient`, `new-quotient`)
-abbrev pub KeptQuotient : Type 0
-KeptQuotient = (c : Index → ℤ) (k : Index) → rounded (keptControl c k) 12 ≡ rounded (pos 4 *ℤ c k +ℤ c (next k) +ℤ c (previous k)) 6
-
-abbrev pub NewQuotient : Type 0
-NewQuotient =
-    (k : Index) (a b : Index → ℤ) (l : Index) →
-    rounded (newControl k a b l) 12 ≡ cond (same l k) (rounded (b (next k) +ℤ b (previous k)) 2) (rounded (pos 2 *ℤ a k +ℤ a l +ℤ b l) 4)
+-- rounding over 12 is rounding of document 01's own quotients, over 6, 2 and 4, from which the rule has the factors 2, 6 and 3 (`quotients`)
+abbrev pub Quotients : Type 0
+Quotients =
+    (z : ℤ) → (rounded (pos 2 *ℤ z) 12 ≡ rounded z 6) × (rounded (pos 6 *ℤ z) 12 ≡ rounded z 2) × (rounded (pos 3 *ℤ z) 12 ≡ rounded z 4)
 
 -- our table is document 01's rule: the exact refinement (`our-table`), and the rounded one (`our-refinement`)
 abbrev pub OurTable : Type 0
