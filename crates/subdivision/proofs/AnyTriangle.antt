@@ -20,7 +20,7 @@ use Rattle.subdivision.specs.Shares.{OfNet, sharesBy, sharesIn, vertexSh
 use Rattle.subdivision.specs.Promises.{AnyTriangle, SplineByWeights, WeightsTotal}
 use Rattle.subdivision.proofs.ControlWeights.{nine, squareE, byShares, bySharesE, other-way, by-shares, shares-total, value-by-weights}
 use Rattle.subdivision.proofs.GridSums.{gridSum, sum-cell}
-use Rattle.subdivision.proofs.Located.{Located, located, in-cell, up-shares, down-shares, no-share}
+use Rattle.subdivision.proofs.Located.{Located, located, in-cell, corner-share, fourth-share, no-share}
 
 -- ---- the terms of vertices and edges
 
@@ -220,17 +220,19 @@ module _ (F : Field) (D p q : ℕ) where
 
       by : (down : Bool) → Located D p q (triangleAt i j down) s → fourCells i j ≡ triangleTerm down s (controlsOf F (triangleAt i j down))
       by false l =
-          let σ = up-shares D p q i j s l in
+          let σ = corner-share false l in
+          let none = fourth-share false l in
           (λ t.
-          (known i j (σ .0) (σ .1) (σ .2) t +ℤ of-first (i + 1) j (σ .1) (right j) (σ .3) t)
-          +ℤ (of-first i (j + 1) (σ .2) (σ .3) (above i) t +ℤ of-second (i + 1) (j + 1) (σ .3) (above (i + 1)) t))
+          (known i j (σ one) (σ two) (σ three) t +ℤ of-first (i + 1) j (σ two) (right j) none t)
+          +ℤ (of-first i (j + 1) (σ three) none (above i) t +ℤ of-second (i + 1) (j + 1) none (above (i + 1)) t))
           ∙ identity (var 0 ⊕ var 3 ⊕ var 4 ⊕ var 5 ⊕ var 1 ⊕ (var 2 ⊕ lit (pos 0))) cornerTermsE
           (termList false s (controlsOf F (triangleAt i j false))) refl
       by true l =
-          let σ = down-shares D p q i j s l in
+          let σ = corner-share true l in
+          let none = fourth-share true l in
           (λ t.
-          (but-first i j (σ .3) (σ .0) (σ .1) t +ℤ but-second (i + 1) j (σ .0) (right j) (σ .2) t)
-          +ℤ (but-third i (j + 1) (σ .1) (σ .2) (above i) t +ℤ of-first (i + 1) (j + 1) (σ .2) (right (j + 1)) (above (i + 1)) t))
+          (but-first i j none (σ one) (σ two) t +ℤ but-second (i + 1) j (σ one) (right j) (σ three) t)
+          +ℤ (but-third i (j + 1) (σ two) (σ three) (above i) t +ℤ of-first (i + 1) (j + 1) (σ three) (right (j + 1)) (above (i + 1)) t))
           ∙ identity (var 3 ⊕ (var 0 ⊕ var 5) ⊕ (var 1 ⊕ var 4 ⊕ var 2)) cornerTermsE
           (termList true s (controlsOf F (triangleAt i j true))) refl
 

@@ -1,12 +1,12 @@
 -- Places by their shares in a triangle, and the share of every vertex at a place.
 use mathlib.Core.Path.{_≡_, sym, _∙_}
-use mathlib.Core.Bool.{Bool, true, false}
+use mathlib.Core.Bool.{Bool, true, false, cond}
 use mathlib.Core.Logic.{_⊎_, inl, inr, ⊎-elim}
 use Prim.Native.Nat.{ℕ, _+_, _-_, _*_, _≤_, _<_, max}
 use native.Mathlib.Nat.{mul-le-mul, le-refl}
 use native.Mathlib.Decide.{decLe}
 use native.Mathlib.Omega.{arith}
-use Rattle.net.specs.Net.{Index, one, two, three, vertexAt, Triangle, triangleAt, corner}
+use Rattle.net.specs.Net.{Index, one, two, three, Vertex, vertexAt, Triangle, triangleAt, corner}
 use Rattle.surface.specs.SurfacePoint.{LiesIn, LiesBy}
 use Rattle.subdivision.specs.Shares.{sharesIn, apart, vertexShare}
 use Rattle.subdivision.proofs.GridSums.{Away}
@@ -51,40 +51,40 @@ share-by : (D p q i j x y z : ℕ) → Apart p (D * i) x → Apart q (D * j) y �
     vertexShare D p q (vertexAt i j) ≡ D - max x (max y z)
 share-by D p q i j x y z e f g = λ t. D - max (distance p (D * i) x e t) (max (distance q (D * j) y f t) (distance (p + q) (D * i + D * j) z g t))
 
--- the four vertices of the cell, for a place in its up triangle and in its down triangle
-module _ (D p q i j : ℕ) (s : Index → ℕ) where
-  pub up-shares : Located D p q (triangleAt i j false) s →
-      (vertexShare D p q (vertexAt i j) ≡ s one)
-      × (vertexShare D p q (vertexAt (i + 1) j) ≡ s two)
-      × (vertexShare D p q (vertexAt i (j + 1)) ≡ s three)
-      × (vertexShare D p q (vertexAt (i + 1) (j + 1)) ≡ 0)
-  up-shares l =
-      let w = l .whole in
-      let a = l .across in
-      let b = l .up in (
-        share-by D p q i j (s two) (s three) (s two + s three) (inl a) (inl b) (inl (omega (arith, a, b))) ∙ omega (arith, w),
-        share-by D p q (i + 1) j (s one + s three) (s three) (s one) (inr (omega (arith, a, w))) (inl b) (inr (omega (arith, a, b, w))) ∙ omega (arith, w),
-        share-by D p q i (j + 1) (s two) (s one + s two) (s one) (inl a) (inr (omega (arith, b, w))) (inr (omega (arith, a, b, w))) ∙ omega (arith, w),
-        share-by D p q (i + 1) (j + 1) (s one + s three) (s one + s two) (s one + s one + s two + s three)
-            (inr (omega (arith, a, w))) (inr (omega (arith, b, w))) (inr (omega (arith, a, b, w))) ∙ omega (arith, w),
-      )
+-- the vertex of the cell that is no corner of its triangle
+abbrev pub fourth : Triangle → Vertex
+fourth t = cond (t .down) (vertexAt (t .column) (t .row)) (vertexAt (t .column + 1) (t .row + 1))
 
-  pub down-shares : Located D p q (triangleAt i j true) s →
-      (vertexShare D p q (vertexAt (i + 1) j) ≡ s one)
-      × (vertexShare D p q (vertexAt i (j + 1)) ≡ s two)
-      × (vertexShare D p q (vertexAt (i + 1) (j + 1)) ≡ s three)
-      × (vertexShare D p q (vertexAt i j) ≡ 0)
-  down-shares l =
-      let w = l .whole in
-      let a = l .across in
-      let b = l .up in (
-        share-by D p q (i + 1) j (s two) (s two + s three) (s three) (inr (omega (arith, a, w))) (inl b) (inl (omega (arith, a, b, w))) ∙ omega (arith, w),
-        share-by D p q i (j + 1) (s one + s three) (s one) (s three) (inl a) (inr (omega (arith, b, w))) (inl (omega (arith, a, b, w))) ∙ omega (arith, w),
-        share-by D p q (i + 1) (j + 1) (s two) (s one) (s one + s two)
-            (inr (omega (arith, a, w))) (inr (omega (arith, b, w))) (inr (omega (arith, a, b, w))) ∙ omega (arith, w),
-        share-by D p q i j (s one + s three) (s two + s three) (s one + s two + s three + s three)
-            (inl a) (inl b) (inl (omega (arith, a, b, w))) ∙ omega (arith, w),
-      )
+module _ {D p q : ℕ} {i j : ℕ} {s : Index → ℕ} where
+  pub corner-share : (down : Bool) → Located D p q (triangleAt i j down) s → (P : Index) → vertexShare D p q (corner (triangleAt i j down) P) ≡ s P
+  corner-share false l one =
+      share-by D p q i j (s two) (s three) (s two + s three)
+      (inl (l .across)) (inl (l .up)) (inl (omega (arith, l .across, l .up))) ∙ omega (arith, l .whole)
+  corner-share false l two =
+      share-by D p q (i + 1) j (s one + s three) (s three) (s one)
+      (inr (omega (arith, l .across, l .whole))) (inl (l .up)) (inr (omega (arith, l .across, l .up, l .whole))) ∙ omega (arith, l .whole)
+  corner-share false l three =
+      share-by D p q i (j + 1) (s two) (s one + s two) (s one)
+      (inl (l .across)) (inr (omega (arith, l .up, l .whole))) (inr (omega (arith, l .across, l .up, l .whole))) ∙ omega (arith, l .whole)
+  corner-share true l one =
+      share-by D p q (i + 1) j (s two) (s two + s three) (s three)
+      (inr (omega (arith, l .across, l .whole))) (inl (l .up)) (inl (omega (arith, l .across, l .up, l .whole))) ∙ omega (arith, l .whole)
+  corner-share true l two =
+      share-by D p q i (j + 1) (s one + s three) (s one) (s three)
+      (inl (l .across)) (inr (omega (arith, l .up, l .whole))) (inl (omega (arith, l .across, l .up, l .whole))) ∙ omega (arith, l .whole)
+  corner-share true l three =
+      share-by D p q (i + 1) (j + 1) (s two) (s one) (s one + s two)
+      (inr (omega (arith, l .across, l .whole))) (inr (omega (arith, l .up, l .whole))) (inr (omega (arith, l .across, l .up, l .whole)))
+      ∙ omega (arith, l .whole)
+
+  pub fourth-share : (down : Bool) → Located D p q (triangleAt i j down) s → vertexShare D p q (fourth (triangleAt i j down)) ≡ 0
+  fourth-share false l =
+      share-by D p q (i + 1) (j + 1) (s one + s three) (s one + s two) (s one + s one + s two + s three)
+      (inr (omega (arith, l .across, l .whole))) (inr (omega (arith, l .up, l .whole))) (inr (omega (arith, l .across, l .up, l .whole)))
+      ∙ omega (arith, l .whole)
+  fourth-share true l =
+      share-by D p q i j (s one + s three) (s two + s three) (s one + s two + s three + s three)
+      (inl (l .across)) (inl (l .up)) (inl (omega (arith, l .across, l .up, l .whole))) ∙ omega (arith, l .whole)
 
 -- a vertex away from the columns or the rows of the cell has no share
 apart-away : (D p i u : ℕ) → D * i ≤ p → p ≤ D * i + D → Away i u → D ≤ apart p (D * u)
@@ -119,16 +119,7 @@ module _ {D p q : ℕ} {t : Triangle} {s : Index → ℕ} (l : Located D p q t s
 -- ---- the share of a vertex is that of the corner in each triangle that the place lies in, and 0 where it is no corner
 
 pub share-of-corner : (D p q : ℕ) (t : Triangle) → LiesIn D p q t → (P : Index) → vertexShare D p q (corner t P) ≡ sharesIn D p q t P
-share-of-corner D p q t l P = by (t .down) (t .column) (t .row) l P
-  where
-    by : (down : Bool) (i j : ℕ) → LiesBy down D p q i j → (P : Index) →
-        vertexShare D p q (corner (triangleAt i j down) P) ≡ sharesIn D p q (triangleAt i j down) P
-    by false i j l one = up-shares D p q i j _ (located D p q (triangleAt i j false) l) .0
-    by false i j l two = up-shares D p q i j _ (located D p q (triangleAt i j false) l) .1
-    by false i j l three = up-shares D p q i j _ (located D p q (triangleAt i j false) l) .2
-    by true i j l one = down-shares D p q i j _ (located D p q (triangleAt i j true) l) .0
-    by true i j l two = down-shares D p q i j _ (located D p q (triangleAt i j true) l) .1
-    by true i j l three = down-shares D p q i j _ (located D p q (triangleAt i j true) l) .2
+share-of-corner D p q t l P = corner-share (t .down) (located D p q t l) P
 
 -- the first column of a cell, the second, or neither; and so for rows
 abbrev Side : ℕ → ℕ → Type 0
@@ -156,9 +147,9 @@ no-share-elsewhere D p q t l u v f = by (t .down) (t .column) (t .row) l f (side
     by false i j l f (inr (inl a)) (inl b) = absurd (f two (λ x. vertexAt (a x) (b x)))
     by false i j l f (inl a) (inr (inl b)) = absurd (f three (λ x. vertexAt (a x) (b x)))
     by false i j l f (inr (inl a)) (inr (inl b)) =
-        (λ x. vertexShare D p q (vertexAt (sym a x) (sym b x))) ∙ up-shares D p q i j _ (located D p q (triangleAt i j false) l) .3
+        (λ x. vertexShare D p q (vertexAt (sym a x) (sym b x))) ∙ fourth-share false (located D p q (triangleAt i j false) l)
     by true i j l f (inr (inl a)) (inl b) = absurd (f one (λ x. vertexAt (a x) (b x)))
     by true i j l f (inl a) (inr (inl b)) = absurd (f two (λ x. vertexAt (a x) (b x)))
     by true i j l f (inr (inl a)) (inr (inl b)) = absurd (f three (λ x. vertexAt (a x) (b x)))
     by true i j l f (inl a) (inl b) =
-        (λ x. vertexShare D p q (vertexAt (sym a x) (sym b x))) ∙ down-shares D p q i j _ (located D p q (triangleAt i j true) l) .3
+        (λ x. vertexShare D p q (vertexAt (sym a x) (sym b x))) ∙ fourth-share true (located D p q (triangleAt i j true) l)

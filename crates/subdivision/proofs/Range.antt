@@ -120,12 +120,7 @@ corner-at u v t s l = go (t .down) (l .across) (l .up) (decLe 1 (s one)) (decLe 
   where
     here : (down : Bool) (P : Index) → corner (triangleAt (t .column) (t .row) down) P .column ≡ u →
         corner (triangleAt (t .column) (t .row) down) P .row ≡ v → IsCorner (triangleAt (t .column) (t .row) down) (vertexAt u v)
-    here false one e f = record { which = one; is = λ i. vertexAt (e i) (f i) }
-    here false two e f = record { which = two; is = λ i. vertexAt (e i) (f i) }
-    here false three e f = record { which = three; is = λ i. vertexAt (e i) (f i) }
-    here true one e f = record { which = one; is = λ i. vertexAt (e i) (f i) }
-    here true two e f = record { which = two; is = λ i. vertexAt (e i) (f i) }
-    here true three e f = record { which = three; is = λ i. vertexAt (e i) (f i) }
+    here down P e f = record { which = P; is = λ i. vertexAt (e i) (f i) }
 
     go : (down : Bool) → u ≡ 1 * t .column + acrossBy down s → v ≡ 1 * t .row + upBy down s → Dec (1 ≤ s one) → Dec (1 ≤ s two) →
         IsCorner (triangleAt (t .column) (t .row) down) (vertexAt u v)

@@ -1,14 +1,15 @@
 -- What refining keeps, of the definitions: the statements, each with the name of its proof. The half in a distance is cleared by 2.
-use mathlib.Core.Path.{_≡_}
+use mathlib.Core.Path.{_≡_, refl}
 use mathlib.Core.Bool.{Bool, true, false}
 use mathlib.Core.List.{List}
 use Prim.Native.Nat.{ℕ, _+_, _*_, _^_, _≤_, _<_}
 use lib.IntN.{ℤ, pos, natAbs, _+ℤ_, _-ℤ_, _*ℤ_}
-use lib.ListN.{take}
+use lib.Dec.{lit≤}
+use lib.ListN.{take, replicate}
 use lib.Signed.{_≤ℤ_}
 use Rattle.exact.specs.Rounding.{rounded}
 use Rattle.exact.specs.WeightedSum.{weightedSum, total}
-use Rattle.net.specs.Net.{Index, Vertex, vertexAt, stepColumn, stepRow, Triangle, corner, Field, numbers, field}
+use Rattle.net.specs.Net.{Index, Vertex, vertexAt, stepColumn, stepRow, Triangle, triangleAt, corner, Field, numbers, field}
 use Rattle.net.specs.TurnedAway.{badSize, shortNet, anyBeyond}
 use Rattle.surface.specs.BezierNet.{controlsOf, controlList}
 use Rattle.surface.specs.SurfacePoint.{OnGrid, LiesIn, Order, valueIn, spline}
@@ -157,3 +158,10 @@ abbrev pub RefinedInRange : Type 0
 RefinedInRange =
     (T : Table) → passes T ≡ true → (net : List ℤ) (w h : ℕ) → AcceptedNet net w h → (k i j x : ℕ) → x < 3 → i < sideAfter k w → j < sideAfter k h →
     (l : Index) → natAbs (steps (refinedBy T) k (field net w x) (vertexAt i j) l) ≤ 16777216
+
+-- worked cases: a net of 2 by 2 with 36 numbers at the limit of the range is taken; vertex (3, 2) of a refined net lies in the up triangle of cell (1, 1)
+taken : AcceptedNet (replicate 36 (pos 16777216)) 2 2
+taken = record { size = refl; long = refl; inRange = refl }
+
+on-an-edge : LiesIn 2 3 2 (triangleAt 1 1 false)
+on-an-edge = (lit≤ tt, lit≤ tt, lit≤ tt)
