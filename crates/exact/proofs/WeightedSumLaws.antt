@@ -1,7 +1,7 @@
 -- The laws of weighted sums: linear in the values, in the range of the values that count, near where the values are near, and the same whatever stands at a
 -- weight of 0. Callers cite these and do not unfold `weightedSum`. `Forall₂` (mathlib) pairs weights with values, or values with values, term by term.
 use mathlib.Core.Path.{_≡_, refl, sym, _∙_, ap, subst}
-use mathlib.Core.Logic.{_⊎_, ⊎-elim}
+use mathlib.Core.Logic.{_⊎_, inr, ⊎-elim}
 use mathlib.Core.List.{List, [], _∷_, map, zipWith, Forall₂, Forall₂·nil, Forall₂·cons}
 use Prim.Native.Nat.{ℕ, zero, suc, _+_, _*_, _≤_, _<_, zero-le}
 use native.Mathlib.Nat.{mul-le-mul, le-refl, le-trans}
@@ -103,6 +103,17 @@ sum-range {m} {n} (Forall₂·cons {a = w} {b = v} {l₁ = ws} {l₂ = vs} h t) 
 abbrev pub NotNegative : List ℤ → Type 0
 NotNegative [] = Unit {0}
 NotNegative (w ∷ ws) = (pos 0 ≤ℤ w) × NotNegative ws
+
+-- values that all lie from m to n are in range at weights that are not negative
+abbrev pub AllBetween : ℤ → ℤ → List ℤ → Type 0
+AllBetween m n [] = Unit {0}
+AllBetween m n (v ∷ vs) = ((m ≤ℤ v) × (v ≤ℤ n)) × AllBetween m n vs
+
+pub all-in-range : (m n : ℤ) (ws vs : List ℤ) → length ws ≡ length vs → NotNegative ws → AllBetween m n vs → Forall₂ (InRange m n) ws vs
+all-in-range m n [] [] e h b = Forall₂·nil
+all-in-range m n [] (v ∷ vs) e h b = absurd (omega arith)
+all-in-range m n (w ∷ ws) [] e h b = absurd (omega arith)
+all-in-range m n (w ∷ ws) (v ∷ vs) e h b = Forall₂·cons (h .0, inr (b .0)) (all-in-range m n ws vs (omega arith) (h .1) (b .1))
 
 -- the two values differ by at most e
 abbrev pub Near : ℕ → ℤ → ℤ → Type 0

@@ -278,8 +278,8 @@ chosen-value F D w h p q =
     ∙ ap (λ (s : Index → ℕ). weightedSum (controlWeights (t .down) s) (controlList (controlsOf F t))) (chosen-shares D w h p q)
 
 -- a place of a triangle of the net is a place of the grid
-pub on-grid : {D w h p q : ℕ} {t : Triangle} {s : Index → ℕ} → OfNet w h t → Located D p q t s → OnGrid D w h p q
-on-grid {D} {w} {h} {p} {q} {t} g l =
+place-on-grid : {D w h p q : ℕ} {t : Triangle} {s : Index → ℕ} → OfNet w h t → Located D p q t s → OnGrid D w h p q
+place-on-grid {D} {w} {h} {p} {q} {t} g l =
     let c = in-cell l in (
       omega (arith, c .1, mul-le-mul (le-refl D) (side (t .column) w (g .0)), mul-add D (t .column) 1),
       omega (arith, c .3, mul-le-mul (le-refl D) (side (t .row) h (g .1)), mul-add D (t .row) 1),
@@ -294,7 +294,7 @@ spline-by-shares F w h D p q t s d g l =
     let c = chosen D w h p q in
     let wide : 2 ≤ w = omega (arith, g .0) in
     let high : 2 ≤ h = omega (arith, g .1) in
-    let here = located D p q c (chosen-lies D w h p q d wide high (on-grid g l)) in
+    let here = located D p q c (chosen-lies D w h p q d wide high (place-on-grid g l)) in
     chosen-value F D w h p q
     ∙ one-value F w h D p q c t (sharesIn D p q c) s (chosen-of-net D w h p q wide high) here g l
 

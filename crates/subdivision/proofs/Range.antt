@@ -2,17 +2,14 @@
 -- triangle's own corners, and so everything stays between them at every depth.
 use mathlib.Core.Path.{_≡_, refl, sym, ap, subst}
 use mathlib.Core.Bool.{Bool, true, false}
-use mathlib.Core.List.{List, [], _∷_, Forall₂, Forall₂·nil, Forall₂·cons}
-use mathlib.Core.Logic.{inr}
 use Prim.Native.Nat.{ℕ, zero, suc, _+_, _-_, _*_, _^_, _≤_, _<_}
 use native.Mathlib.Nat.{mul-le-mul, mul-one, pow-suc}
 use native.Mathlib.Decide.{decLe}
 use native.Mathlib.Omega.{arith}
 use lib.Dec.{lit<}
 use lib.IntN.{ℤ}
-use lib.ListN.{length}
 use Rattle.exact.specs.Rounding.{rounded}
-use Rattle.exact.proofs.WeightedSumLaws.{InRange, NotNegative}
+use Rattle.exact.proofs.WeightedSumLaws.{all-in-range}
 use Rattle.exact.proofs.RoundingLaws.{mean-range}
 use Rattle.net.specs.Net.{Index, one, two, three, Vertex, vertexAt, Triangle, triangleAt, corner, Field}
 use Rattle.surface.specs.BezierNet.{controlsOf, controlList}
@@ -29,18 +26,6 @@ use Rattle.subdivision.proofs.AnyTriangle.{chosen-of-net, spline-by-sha
 use Rattle.subdivision.proofs.Means.{child-mean}
 use Rattle.subdivision.proofs.SameSpline.{side-at-least}
 use Rattle.subdivision.proofs.Children.{Child, child, child-of-net, source, kindBetween, beginBetween, endBetween, in-child}
-
--- ---- values between two limits, and their means
-
-abbrev AllBetween : ℤ → ℤ → List ℤ → Type 0
-AllBetween m n [] = Unit {0}
-AllBetween m n (v ∷ vs) = Between m n v × AllBetween m n vs
-
-mean-terms : (m n : ℤ) (ws vs : List ℤ) → length ws ≡ length vs → NotNegative ws → AllBetween m n vs → Forall₂ (InRange m n) ws vs
-mean-terms m n [] [] e h b = Forall₂·nil
-mean-terms m n [] (v ∷ vs) e h b = absurd (omega arith)
-mean-terms m n (w ∷ ws) [] e h b = absurd (omega arith)
-mean-terms m n (w ∷ ws) (v ∷ vs) e h b = Forall₂·cons (h .0, inr (b .0)) (mean-terms m n ws vs (omega arith) (h .1) (b .1))
 
 -- ---- one step
 
@@ -62,7 +47,7 @@ module _ (T : Table) (e : passes T ≡ true) (F : Field) where
       let below = kind-below (r .kind) in
       subst (λ (z : ℤ). Between m n (rounded z 12)) (sym (r .mean))
       (mean-range 12 (lit< tt) (row-total T e number below l)
-      (mean-terms m n ws (six (F (corner t A)) (F (corner t B))) (row-length T e number below l) (row-not-negative T e number below l)
+      (all-in-range m n ws (six (F (corner t A)) (F (corner t B))) (row-length T e number below l) (row-not-negative T e number below l)
       (b A one, (b A two, (b A three, (b B one, (b B two, (b B three, tt))))))))
 
   child-between : (m n : ℤ) (t : Triangle) (k : Child) → CornersBetween m n F t → CornersBetween m n (refinedBy T F) (child t k)
@@ -77,7 +62,7 @@ point-in m n F w h D p q t s d g l b =
     let some : 0 < 36 * (D * D) = omega (arith, mul-le-mul d d) in
     subst (λ (z : ℤ). Between m n (rounded z (36 * (D * D)))) (sym (spline-by-shares F w h D p q t s d g l))
     (mean-range (36 * (D * D)) some (shares-total (t .down) s D (l .whole))
-    (mean-terms m n (controlWeights (t .down) s) (controlList (controlsOf F t)) refl (weights-not-negative (t .down) s)
+    (all-in-range m n (controlWeights (t .down) s) (controlList (controlsOf F t)) refl (weights-not-negative (t .down) s)
     (b one one, (b one two, (b one three, (b two one, (b two two, (b two three, (b three one, (b three two, (b three three, tt)))))))))))
 
 -- the first of k + 1 steps

@@ -15,6 +15,7 @@ use Rattle.exact.proofs.Expressions.{Expr, var, lit, _⊕_, _⊗_, identity}
 use Rattle.exact.proofs.WeightedSumLaws.{NotNegative, sumFrom}
 use Rattle.exact.proofs.RoundingLaws.{rounded-scale}
 use Rattle.net.specs.Net.{Index, one, two, three, next, previous, rank, Vertex, entry, field, controlTriangle}
+use Rattle.surface.proofs.SurfacePoints.{below-three}
 use Rattle.subdivision.specs.Refinement.{Kind, kept, along, kindOf, beginOf, endOf, same, ruleBy, exactRefinement, refinement}
 use Rattle.subdivision.specs.WeightTable.{Table, kindNumber, weightsAt, sum, every, goodRow, goodKeptRow, goodKind, passes}
 use Rattle.subdivision.specs.WeightTable.{six, exactBy, refinedBy, refinedNumber, refinedPoint, refinedTriangle, weights}
@@ -35,15 +36,10 @@ every-at test (x ∷ xs) d e (suc i) h = every-at test xs d (both (test x) (ever
 abbrev pub rowAt : Table → ℕ → Index → List ℕ
 rowAt t n l = getD (getD t n []) (rank l) []
 
-rank-below : (l : Index) → rank l < 3
-rank-below one = omega arith
-rank-below two = omega arith
-rank-below three = omega arith
-
 kind-row : (test : List ℕ → Bool) (rows : List (List ℕ)) → goodKind test rows ≡ true → (l : Index) → test (getD rows (rank l) []) ≡ true
 kind-row test rows e l =
     let h = both (eqb (length rows) 3) (every test rows) e in
-    every-at test rows [] (h .1) (rank l) (omega (arith, eqb-true (length rows) 3 (h .0), rank-below l))
+    every-at test rows [] (h .1) (rank l) (omega (arith, eqb-true (length rows) 3 (h .0), below-three l refl))
 
 kept-passes : (t : Table) → passes t ≡ true → (l : Index) → goodKeptRow (rowAt t 0 l) ≡ true
 kept-passes [] e l = absurd (subst T (sym e) tt)

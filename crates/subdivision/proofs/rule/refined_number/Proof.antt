@@ -1,13 +1,12 @@
 -- `subdivision::rule::refined_number` meets its contract: the mean lies in the range of the values, whatever i32s they are.
 use mathlib.Core.Bool.{true}
-use mathlib.Core.List.{List, [], _∷_, map, Forall₂, Forall₂·nil, Forall₂·cons}
-use mathlib.Core.Logic.{inr}
+use mathlib.Core.List.{List, [], _∷_, map}
 use mathlib.Core.Path.{_≡_, sym, ap, subst, _∙_}
 use Prim.Native.Nat.{ℕ, _+_, _-_, _^_, _≤_}
 use native.Mathlib.Omega.{arith}
 use lib.Dec.{lit<, lit≤}
 use lib.IntN.{ℤ, pos, negℤ}
-use lib.ListN.{length}
+use lib.ListN.{length, length-map}
 use lib.Signed.{_<ℤ_}
 use denote.Array.{each}
 use denote.Shadow.{shadow}
@@ -23,9 +22,9 @@ use Rattle.exact.proofs.Parts.{integers}
 use Rattle.exact.proofs.RoundingLaws.{mean-range}
 use Rattle.exact.proofs.SignedCode.{reads-back, reads-as}
 use Rattle.exact.proofs.Sizes.{fits-low, fits-high, fits-between}
-use Rattle.exact.proofs.WeightedSumLaws.{InRange, within-more}
+use Rattle.exact.proofs.WeightedSumLaws.{AllBetween, all-in-range, within-more}
 use Rattle.subdivision.specs.WeightTable.{sum, goodRow}
-use Rattle.subdivision.proofs.Tables.{good-length, good-sum, total-sum}
+use Rattle.subdivision.proofs.Tables.{good-length, good-sum, total-sum, not-negative}
 use Rattle.subdivision.proofs.rule.refined_number.Statement.{statement}
 use Rattle.subdivision.proofs.rule.refined_number.Tie as tie
 
@@ -34,24 +33,20 @@ within-sum : (row : List ℕ) → Within (sum row) (map pos row)
 within-sum [] = tt
 within-sum (n ∷ row) = (omega arith, within-more (sum row) (n + sum row) (omega arith) (map pos row) (within-sum row))
 
--- weights that are not negative, and values that are i32s
-in-range : (row : List ℕ) (values : List ℤ) (us : List Val) → length row ≡ length values → shadow (each ℤ (SInt w32 .own) values us) →
-    Forall₂ (InRange (negℤ (pos (2 ^ 31))) (pos (2 ^ 31 - 1))) (map pos row) values
-in-range [] [] us e h = Forall₂·nil
-in-range [] (v ∷ values) us e h = absurd (omega arith)
-in-range (n ∷ row) [] us e h = absurd (omega arith)
-in-range (n ∷ row) (v ∷ values) [] e h = absurd h
-in-range (n ∷ row) (v ∷ values) (u ∷ us) e h =
+-- values that are i32s lie between the limits of an i32
+i32s : (values : List ℤ) (us : List Val) → shadow (each ℤ (SInt w32 .own) values us) → AllBetween (negℤ (pos (2 ^ 31))) (pos (2 ^ 31 - 1)) values
+i32s [] us h = tt
+i32s (v ∷ values) [] h = absurd h
+i32s (v ∷ values) (u ∷ us) h =
     let f : SFits w32 v = sfits-of (h .0 .1) in
     let high : v <ℤ pos (2 ^ 31) = fits-high f in
-    let here : InRange (negℤ (pos (2 ^ 31))) (pos (2 ^ 31 - 1)) (pos n) v = (omega integers, inr (fits-low f, omega integers)) in
-    Forall₂·cons here (in-range row values us (omega arith) (h .1))
+    ((fits-low f, omega integers), i32s values us (h .1))
 
 -- so the mean is an i32; `us` is how the machine holds the values
 mean-fits : (row : List ℕ) (values : List ℤ) (us : List Val) → goodRow row ≡ true → length values ≡ 6 →
     shadow (each ℤ (SInt w32 .own) values us) → SFits w32 (rounded (weightedSum (map pos row) values) 12)
 mean-fits row values us e long h =
-    let r = mean-range 12 (lit< tt) (total-sum row ∙ ap pos (good-sum row e)) (in-range row values us (good-length row e ∙ sym long) h) in
+    let r = mean-range 12 (lit< tt) (total-sum row ∙ ap pos (good-sum row e)) (all-in-range (negℤ (pos (2 ^ 31))) (pos (2 ^ 31 - 1)) (map pos row) values (length-map row pos ∙ good-length row e ∙ sym long) (not-negative row) (i32s values us h)) in
     fits-between (r .0) (≤ℤ-<ℤ-trans (r .1) (omega integers))
 
 module _ (c : tie.After-weighted-mean6) where
