@@ -1,6 +1,7 @@
 //! Times the library `ups` and the same computation in plain Rust on the same inputs.
 
 mod plain;
+mod plain_file;
 // Not every function of the library is timed.
 #[allow(dead_code)]
 #[path = "../../tests/src/raw.rs"]
@@ -10,6 +11,8 @@ use std::hint::black_box;
 use std::time::Instant;
 
 const SIDE: usize = 17;
+/// Both sides of the net that is written to a file and read back.
+const FILE_SIDE: usize = 1025;
 const CALLS: usize = 4096;
 const ROUNDS: usize = 61;
 /// Passes over the list of inputs in one round, so that a round lasts some milliseconds.
@@ -32,36 +35,44 @@ impl Random {
     }
 }
 
-/// One computation in both versions. Each version goes once over all inputs and hands back the
-/// sum of its results.
+/// One version of a computation. It goes once over all inputs and hands back a number that is
+/// the same in every version.
+type Pass<'a> = Box<dyn FnMut() -> i64 + 'a>;
+
+/// One computation in both versions, which hand back the sum of their results.
 struct Subject<'a> {
     name: &'static str,
     calls: usize,
-    kernel: Box<dyn Fn() -> i64 + 'a>,
-    plain: Box<dyn Fn() -> i64 + 'a>,
+    kernel: Pass<'a>,
+    plain: Pass<'a>,
 }
 
 impl Subject<'_> {
-    fn measure(&self) {
-        let mut times = [Vec::new(), Vec::new()];
-        for round in 0..ROUNDS {
-            let mut sums = [0, 0];
-            // The version that goes first changes from round to round.
-            for version in [round % 2, 1 - round % 2] {
-                let pass = [&self.kernel, &self.plain][version];
-                let start = Instant::now();
-                for _ in 0..PASSES {
-                    sums[version] += black_box(pass());
-                }
-                let time = start.elapsed().as_nanos() as f64;
-                times[version].push(time / (PASSES * self.calls) as f64);
-            }
-            assert_eq!(sums[0], sums[1], "{}: the results differ", self.name);
-        }
-        let [kernel, plain] = times.map(median);
+    fn measure(self) {
+        let times = medians(self.name, PASSES, [self.kernel, self.plain]);
+        let [kernel, plain] = times.map(|time| time / self.calls as f64);
         let ratio = kernel / plain;
         println!("{:<16}{kernel:>10.1}{plain:>10.1}{ratio:>8.2}", self.name);
     }
+}
+
+/// The median time of a pass of each version, in nanoseconds.
+fn medians<const N: usize>(name: &str, passes: usize, mut versions: [Pass; N]) -> [f64; N] {
+    let mut times = [const { Vec::new() }; N];
+    for round in 0..ROUNDS {
+        let mut sums = [0; N];
+        // The version that goes first changes from round to round.
+        for turn in 0..N {
+            let version = (round + turn) % N;
+            let start = Instant::now();
+            for _ in 0..passes {
+                sums[version] += black_box(versions[version]());
+            }
+            times[version].push(start.elapsed().as_nanos() as f64 / passes as f64);
+        }
+        assert_eq!(sums, [sums[0]; N], "{name}: the results differ");
+    }
+    times.map(median)
 }
 
 fn median(mut times: Vec<f64>) -> f64 {
@@ -144,12 +155,91 @@ fn bezier_net<'a>(net: &'a [i32], random: &mut Random) -> Subject<'a> {
     }
 }
 
+/// The times of the kernel, of plain Rust and of a copy of the file's bytes.
+fn print_file_times(name: &str, times: [f64; 3]) {
+    let [kernel, plain, copy] = times.map(|time| time / 1e6);
+    let (ratio, over_copy) = (kernel / plain, kernel / copy);
+    println!("{name:<16}{kernel:>10.2}{plain:>10.2}{ratio:>8.2}{copy:>10.2}{over_copy:>8.2}");
+}
+
+/// Memory whose pages are all in use, so that no page is brought in while it is timed.
+fn touched<T: Copy + From<u8>>(len: usize) -> Vec<T> {
+    vec![T::from(1); len]
+}
+
+/// A copy of as many bytes.
+fn copy(len: usize) -> Pass<'static> {
+    let (from, mut to) = (touched::<u8>(len), touched(len));
+    Box::new(move || {
+        to.copy_from_slice(black_box(&from));
+        black_box(&to).len() as i64
+    })
+}
+
+/// Writes the net in each version and hands its file back.
+fn write_file(net: &[i32]) -> Vec<u8> {
+    let len = 4 * (net.len() + 3);
+    let (mut out, mut same) = (touched(len), touched(len));
+    let kernel = Box::new(|| {
+        let mut written = [0];
+        let (at, count, to) = (net.as_ptr(), net.len(), out.as_mut_ptr());
+        let (w, h, told) = (FILE_SIDE, FILE_SIDE, written.as_mut_ptr());
+        // SAFETY: the lengths are those of the net and of the two outputs.
+        let refusal = unsafe { raw::ups_write(at, count, w, h, to, len, told, 1) };
+        assert_eq!(refusal, 0);
+        black_box(&out);
+        written[0] as i64
+    });
+    let plain = Box::new(|| {
+        let mut written = [0];
+        let size = (FILE_SIDE, FILE_SIDE);
+        let answer = plain_file::write(black_box(net), size, &mut same, &mut written);
+        assert_eq!(answer, Ok(()));
+        black_box(&same);
+        written[0] as i64
+    });
+    let times = medians("write", 1, [kernel, plain, copy(len)]);
+    assert!(out == same, "the bytes differ");
+    print_file_times("write", times);
+    out
+}
+
+/// Reads the net's file in each version.
+fn read_file(file: &[u8], net: &[i32]) {
+    let len = net.len();
+    let (mut out, mut same) = (touched(len), touched(len));
+    let kernel = Box::new(|| {
+        let mut size = [0; 2];
+        let (at, count) = (file.as_ptr(), file.len());
+        let (to, told) = (out.as_mut_ptr(), size.as_mut_ptr());
+        // SAFETY: the lengths are those of the file and of the two outputs.
+        let refusal = unsafe { raw::ups_read(at, count, to, len, told, 2) };
+        assert_eq!((refusal, size), (0, [FILE_SIDE as u64; 2]));
+        black_box(&out);
+        count as i64
+    });
+    let plain = Box::new(|| {
+        let mut size = [0; 2];
+        let answer = plain_file::read(black_box(file), &mut same, &mut size);
+        assert_eq!((answer, size), (Ok(()), [FILE_SIDE as u64; 2]));
+        black_box(&same);
+        file.len() as i64
+    });
+    let times = medians("read", 1, [kernel, plain, copy(file.len())]);
+    assert!(out == net && same == net, "the nets differ");
+    print_file_times("read", times);
+}
+
+fn random_net(random: &mut Random, side: usize) -> Vec<i32> {
+    let numbers = 2 * LIMIT as usize + 1;
+    (0..9 * side * side)
+        .map(|_| random.below(numbers) as i32 - LIMIT)
+        .collect()
+}
+
 fn main() {
     let mut random = Random(1);
-    let numbers = 2 * LIMIT as usize + 1;
-    let net: Vec<i32> = (0..9 * SIDE * SIDE)
-        .map(|_| random.below(numbers) as i32 - LIMIT)
-        .collect();
+    let net = random_net(&mut random, SIDE);
     let subjects = [
         surface_point(&net, &mut random),
         bezier_net(&net, &mut random),
@@ -161,4 +251,11 @@ fn main() {
     for subject in subjects {
         subject.measure();
     }
+    println!(
+        "\n{:<16}{:>10}{:>10}{:>8}{:>10}{:>8}",
+        "ms per file", "kernel", "plain", "ratio", "copy", "ratio"
+    );
+    let net = random_net(&mut random, FILE_SIDE);
+    let file = write_file(&net);
+    read_file(&file, &net);
 }

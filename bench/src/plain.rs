@@ -20,7 +20,7 @@ const TURNS: [[[usize; 3]; 3]; 2] = [
     [[1, 2, 0], [0, 1, 2], [2, 0, 1]],
 ];
 
-fn check_size(w: usize, h: usize) -> Result<(), Refusal> {
+pub fn check_size(w: usize, h: usize) -> Result<(), Refusal> {
     let sides = 2..=1025;
     if sides.contains(&w) && sides.contains(&h) {
         Ok(())
@@ -29,7 +29,7 @@ fn check_size(w: usize, h: usize) -> Result<(), Refusal> {
     }
 }
 
-fn check_lengths(
+pub fn check_lengths(
     net: &[i32],
     (w, h): (usize, usize),
     out_len: usize,
@@ -42,6 +42,10 @@ fn check_lengths(
     } else {
         Ok(())
     }
+}
+
+pub fn in_range(x: &i32) -> bool {
+    (-LIMIT..=LIMIT).contains(x)
 }
 
 /// The control points of a corner, named by their part in the triangle.
@@ -90,7 +94,6 @@ fn corners(net: &[i32], w: usize, i: usize, j: usize, down: usize) -> Result<[Co
         _ => [first + 1, first + w, first + w + 1],
     };
     let numbers = vertices.map(|vertex| &net[9 * vertex..9 * vertex + 9]);
-    let in_range = |x: &i32| (-LIMIT..=LIMIT).contains(x);
     if !numbers.iter().all(|part| part.iter().all(in_range)) {
         return Err(3);
     }

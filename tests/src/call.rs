@@ -1,7 +1,8 @@
 //! A call described as data, so that faults can be put into it one by one and the library and
 //! the oracle get the same question.
 
-use crate::kernel::LentNet;
+use crate::kernel::{LentFile, LentNet};
+use crate::netfile::{self, FileNet};
 use crate::oracle::{self, Faults};
 use std::fmt;
 
@@ -11,10 +12,11 @@ pub enum Ask {
     Bezier { i: usize, j: usize, down: u32 },
     Surface { p: usize, q: usize },
     View { p: usize, q: usize },
+    Write { written_len: usize },
 }
 
-/// Each call on the first up triangle.
-pub const ASKS: [Ask; 4] = [
+/// Each call; those that name a vertex, a triangle or a place on the first up triangle.
+pub const ASKS: [Ask; 5] = [
     Ask::Vertex { i: 0, j: 0 },
     Ask::Bezier {
         i: 0,
@@ -23,7 +25,12 @@ pub const ASKS: [Ask; 4] = [
     },
     Ask::Surface { p: 300, q: 200 },
     Ask::View { p: 300, q: 200 },
+    Ask::Write { written_len: 1 },
 ];
+
+/// The most bytes that `Call::new` lends, since sizes may be far too great. A file of 1,026 by 4
+/// has fewer.
+const MOST_BYTES: usize = 1 << 18;
 
 #[derive(Clone)]
 pub struct Call {
@@ -39,6 +46,7 @@ pub enum Answer {
     Refused(u32),
     Accepted,
     Numbers(Vec<i32>),
+    Bytes(Vec<u8>),
     DoubleBits(Vec<u64>),
 }
 
@@ -52,12 +60,13 @@ impl fmt::Debug for Call {
 }
 
 impl Call {
-    /// A call on the whole net with an output as long as the result.
+    /// A call on the whole net with an output as long as the result, up to `MOST_BYTES`.
     pub fn new(net: &[i32], (w, h): (usize, usize), ask: Ask) -> Self {
         let out_len = match ask {
             Ask::Vertex { .. } => 0,
             Ask::Bezier { .. } => oracle::BEZIER_NUMBERS,
             Ask::Surface { .. } | Ask::View { .. } => oracle::POINT_NUMBERS,
+            Ask::Write { .. } => netfile::file_len(w, h).map_or(0, |len| len.min(MOST_BYTES)),
         };
         let net = net.to_vec();
         Call {
@@ -80,6 +89,9 @@ impl Call {
             Ask::Surface { p, q } | Ask::View { p, q } => {
                 oracle::point_faults(net, size, (p, q), self.out_len)
             }
+            Ask::Write { written_len } => {
+                netfile::write_faults(net, size, self.out_len, written_len)
+            }
         }
     }
 
@@ -97,6 +109,9 @@ impl Call {
                 let point = oracle::surface_point(net, size, (p, q), self.out_len);
                 bits_answer(point.map(oracle::view_bits))
             }
+            Ask::Write { written_len } => {
+                bytes_answer(netfile::write(net, size, self.out_len, written_len))
+            }
         }
     }
 
@@ -109,6 +124,7 @@ impl Call {
             }
             Ask::Surface { p, q } => numbers_answer(net.surface_point(size, (p, q), self.out_len)),
             Ask::View { p, q } => bits_answer(net.view_point(size, (p, q), self.out_len)),
+            Ask::Write { written_len } => bytes_answer(net.write(size, self.out_len, written_len)),
         }
     }
 
@@ -147,5 +163,71 @@ fn bits_answer<const N: usize>(answer: Result<[u64; N], u32>) -> Answer {
     match answer {
         Ok(bits) => Answer::DoubleBits(bits.to_vec()),
         Err(number) => Answer::Refused(number),
+    }
+}
+
+fn bytes_answer(answer: Result<Vec<u8>, u32>) -> Answer {
+    match answer {
+        Ok(bytes) => Answer::Bytes(bytes),
+        Err(number) => Answer::Refused(number),
+    }
+}
+
+/// A file to read, with the lengths of the slices for its net and its size.
+#[derive(Clone)]
+pub struct Reading {
+    pub file: Vec<u8>,
+    pub net_len: usize,
+    pub size_len: usize,
+}
+
+impl fmt::Debug for Reading {
+    fn fmt(&self, to: &mut fmt::Formatter) -> fmt::Result {
+        let (net_len, size_len) = (self.net_len, self.size_len);
+        write!(
+            to,
+            "net of {net_len}, size of {size_len}, {} bytes",
+            self.file.len()
+        )?;
+        // The start of the file is enough in a message.
+        for word in self.file.chunks(4).take(48) {
+            write!(to, " ")?;
+            for byte in word {
+                write!(to, "{byte:02X}")?;
+            }
+        }
+        Ok(())
+    }
+}
+
+impl Reading {
+    /// Into a slice of `net_len` numbers and one of two.
+    pub fn new(file: &[u8], net_len: usize) -> Self {
+        Reading {
+            file: file.to_vec(),
+            net_len,
+            size_len: 2,
+        }
+    }
+
+    pub fn of_oracle(&self) -> Result<FileNet, u32> {
+        netfile::read(&self.file, self.net_len, self.size_len)
+    }
+
+    pub fn of_kernel(&self, file: &LentFile) -> Result<FileNet, u32> {
+        file.read(self.net_len, self.size_len)
+    }
+
+    /// The library's answer, after comparison with the oracle's.
+    pub fn check(&self) -> Result<FileNet, u32> {
+        let answer = self.of_kernel(&LentFile::new(&self.file));
+        assert_eq!(answer, self.of_oracle(), "{self:?}");
+        answer
+    }
+
+    /// Checks the answer and expects this refusal, 0 for none.
+    pub fn expect(&self, refusal: u32) {
+        let number = self.check().err().unwrap_or(0);
+        assert_eq!(number, refusal, "{self:?}");
     }
 }

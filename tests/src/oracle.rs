@@ -337,11 +337,12 @@ pub fn refusal(faults: &Faults) -> u32 {
     first.map_or(0, |&(_, number)| number)
 }
 
-fn size_fault(w: usize, h: usize) -> bool {
+pub fn size_fault(w: usize, h: usize) -> bool {
     !(2..=1025).contains(&w) || !(2..=1025).contains(&h)
 }
 
-fn short(len: usize, w: usize, h: usize) -> bool {
+/// Whether a net of `len` numbers is too short for its size.
+pub fn short(len: usize, w: usize, h: usize) -> bool {
     let needed = (w as u128)
         .checked_mul(h as u128)
         .and_then(|n| n.checked_mul(9));
@@ -443,7 +444,7 @@ pub fn bezier_numbers(net: &Net, triangle: Triangle) -> [i32; BEZIER_NUMBERS] {
     numbers
 }
 
-fn accepted(faults: &Faults) -> Result<(), u32> {
+pub fn accepted(faults: &Faults) -> Result<(), u32> {
     match refusal(faults) {
         0 => Ok(()),
         number => Err(number),

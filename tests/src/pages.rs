@@ -34,15 +34,15 @@ pub enum Side {
     End,
 }
 
-pub struct Pages {
+pub struct Pages<T> {
     base: *mut c_void,
     size: usize,
-    numbers: *const i32,
+    numbers: *const T,
     len: usize,
 }
 
-impl Pages {
-    pub fn new(numbers: &[i32], side: Side) -> Self {
+impl<T: Copy> Pages<T> {
+    pub fn new(numbers: &[T], side: Side) -> Self {
         let bytes = size_of_val(numbers);
         let inner = bytes.div_ceil(PAGE).max(1) * PAGE;
         let size = inner + 2 * PAGE;
@@ -58,7 +58,7 @@ impl Pages {
                 Side::Front => first,
                 Side::End => first.add(inner - bytes),
             };
-            let start = start.cast::<i32>();
+            let start = start.cast::<T>();
             ptr::copy_nonoverlapping(numbers.as_ptr(), start, numbers.len());
             assert_eq!(mprotect(first.cast(), inner, PROT_READ), 0, "mprotect");
             Pages {
@@ -70,13 +70,13 @@ impl Pages {
         }
     }
 
-    pub fn numbers(&self) -> &[i32] {
+    pub fn numbers(&self) -> &[T] {
         // SAFETY: `new` put `len` numbers there; the pages are readable until the drop.
         unsafe { std::slice::from_raw_parts(self.numbers, self.len) }
     }
 }
 
-impl Drop for Pages {
+impl<T> Drop for Pages<T> {
     fn drop(&mut self) {
         // SAFETY: the mapping made by `new`, no longer borrowed.
         unsafe {

@@ -40,4 +40,22 @@ extern "C" {
         out: *mut f64,
         out_len: usize,
     ) -> u32;
+    pub fn ups_write(
+        net: *const i32,
+        len: usize,
+        w: usize,
+        h: usize,
+        out: *mut u8,
+        out_len: usize,
+        written: *mut u64,
+        written_len: usize,
+    ) -> u32;
+    pub fn ups_read(
+        file: *const u8,
+        file_len: usize,
+        net: *mut i32,
+        net_len: usize,
+        size: *mut u64,
+        size_len: usize,
+    ) -> u32;
 }

@@ -12,6 +12,7 @@ fn asks(random: &mut Random, (w, h): (usize, usize)) -> Vec<Ask> {
     let mut asks = vec![
         Ask::Vertex { i: 0, j: 0 },
         Ask::Vertex { i: w - 1, j: h - 1 },
+        Ask::Write { written_len: 1 },
     ];
     for down in [0, 1] {
         for (i, j) in [(0, 0), (w - 2, 0), (0, h - 2), (w - 2, h - 2)] {

@@ -1,7 +1,8 @@
 //! The worked cases of the specification.
 
-use ups_tests::call::{Answer, Ask, Call};
+use ups_tests::call::{Answer, Ask, Call, Reading};
 use ups_tests::kernel::LentNet;
+use ups_tests::netfile::{self, FileNet};
 use ups_tests::nets::door_corner;
 use ups_tests::oracle::{self, Net, EDGE, LIMIT};
 use ups_tests::rational::Rational;
@@ -23,6 +24,15 @@ fn point(net: &[i32], p: usize, q: usize) -> [i32; 3] {
     let bits = point.map(|x| (f64::from(x) / 1024.0).to_bits());
     assert_eq!(view, Answer::DoubleBits(bits.to_vec()));
     point
+}
+
+/// The bytes of the net's file, after comparison with the oracle.
+fn file(net: &[i32]) -> Vec<u8> {
+    let answer = Call::new(net, SIZE, Ask::Write { written_len: 1 }).check();
+    let Answer::Bytes(bytes) = answer else {
+        panic!("{answer:?}");
+    };
+    bytes
 }
 
 fn bezier(net: &[i32], down: u32) -> Vec<i32> {
@@ -175,6 +185,7 @@ fn examples_of_refusals() {
         },
         Ask::Surface { p: 0, q: 0 },
         Ask::View { p: 0, q: 0 },
+        Ask::Write { written_len: 1 },
     ];
     for ask in asks {
         Call::new(&net, SIZE, ask).expect(0);
@@ -192,6 +203,66 @@ fn examples_of_refusals() {
     for ask in [Ask::Surface { p: 1025, q: 0 }, Ask::View { p: 1025, q: 0 }] {
         Call::new(&net, SIZE, ask).expect(6);
     }
+    let mut write = Call::new(&net, SIZE, Ask::Write { written_len: 1 });
+    for (out_len, refusal) in [(155, 5), (156, 0)] {
+        write.out_len = out_len;
+        write.expect(refusal);
+    }
+}
+
+#[test]
+fn examples_of_refused_files() {
+    let file = file(&door_corner(120));
+    let expect = |file: &[u8], refusal| Reading::new(file, 36).expect(refusal);
+    expect(&file, 0);
+    expect(&[], 7);
+    expect(&[&[0x20, 0, 0, 2], &file[4..]].concat(), 8);
+    expect(&[&file[..], &[0]].concat(), 9);
+    expect(&[&[0x10, 0, 0, 1], &file[4..]].concat(), 1);
+    // x = 16,777,217
+    expect(&[&file[..8], &[0x31, 0, 0, 1], &file[12..]].concat(), 3);
+}
+
+/// Every word of the door corner's file, written out by hand.
+#[test]
+fn the_file_of_the_door_corner() {
+    #[rustfmt::skip]
+    let words = [
+        0x10000002, 0x20000002,
+        0x30000258, 0x40000000, 0x50000078,
+        0x3ffffda8, 0x40000258, 0x50000000,
+        0x30000000, 0x4ffffda8, 0x50000000,
+        0x30000708, 0x40000000, 0x50000000,
+        0x30000258, 0x40000258, 0x50000000,
+        0x300004b0, 0x4ffffda8, 0x50000000,
+        0x30000258, 0x400004b0, 0x50000000,
+        0x3ffffda8, 0x40000708, 0x50000000,
+        0x30000000, 0x40000258, 0x50000000,
+        0x30000708, 0x400004b0, 0x50000000,
+        0x30000258, 0x40000708, 0x50000000,
+        0x300004b0, 0x40000258, 0x50000000,
+        0x60000000_u32,
+    ];
+    let bytes: Vec<u8> = words.into_iter().flat_map(u32::to_be_bytes).collect();
+    assert_eq!(bytes.len(), 156);
+    let numbers = door_corner(120);
+    assert_eq!(file(&numbers), bytes);
+    let net = FileNet {
+        size: SIZE,
+        numbers,
+    };
+    assert_eq!(Reading::new(&bytes, 36).check(), Ok(net));
+}
+
+#[test]
+fn z_of_minus_one_is_word_5fffffff() {
+    let net = door_corner(-1);
+    assert_eq!(netfile::word(netfile::Z, -1), 0x5fff_ffff);
+    let bytes = file(&net);
+    // The fifth word is z of c1 of (0, 0).
+    assert_eq!(bytes[16..20], [0x5f, 0xff, 0xff, 0xff]);
+    let back = Reading::new(&bytes, 36).check().expect("accepted");
+    assert_eq!(back.numbers, net);
 }
 
 #[test]
@@ -204,10 +275,12 @@ fn accepted_at_the_edge() {
         assert_eq!(point(&full, 300, 200), [edge; 3]);
         assert_eq!(bezier(&full, 0), [36 * edge; 57]);
         assert_eq!(bezier(&full, 1), [36 * edge; 57]);
+        Reading::new(&file(&full), 36).expect(0);
         let mut one = net.clone();
         one[0] = edge;
         point(&one, 300, 200);
         bezier(&one, 0);
+        file(&one);
     }
 }
 
@@ -246,6 +319,7 @@ fn the_greatest_net_is_accepted() {
 fn one_vertex_more_a_side_is_refused() {
     let numbers = vec![0; 9 * 1026 * 1026];
     let net = LentNet::new(&numbers);
+    let file_len = |(w, h)| netfile::file_len(w, h).expect("a length");
     for size in [
         (1026, 1026),
         (1026, 1025),
@@ -257,11 +331,13 @@ fn one_vertex_more_a_side_is_refused() {
         assert_eq!(net.bezier_net(size, (0, 0), 0, 57), Err(1));
         assert_eq!(net.surface_point(size, (0, 0), 3), Err(1));
         assert_eq!(net.view_point(size, (0, 0), 3), Err(1));
+        assert_eq!(net.write(size, file_len(size), 1).err(), Some(1));
     }
     for size in [(1025, 1025), (1025, 2), (2, 1025)] {
         assert_eq!(net.vertex_refusal(size.0, size.1, 0, 0), 0);
         assert_eq!(net.bezier_net(size, (0, 0), 0, 57), Ok([0; 57]));
         assert_eq!(net.surface_point(size, (0, 0), 3), Ok([0; 3]));
         assert_eq!(net.view_point(size, (0, 0), 3), Ok([0; 3]));
+        assert_eq!(net.write(size, file_len(size), 1).err(), None);
     }
 }

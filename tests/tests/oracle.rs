@@ -1,5 +1,6 @@
 //! The oracle's own parts.
 
+use ups_tests::netfile;
 use ups_tests::nets::{self, NUMBERS};
 use ups_tests::oracle::{self, chosen_triangle, triangles_at, Kind, Net, Patch, Triangle, EDGE};
 use ups_tests::random::Random;
@@ -290,4 +291,9 @@ fn refusals_of_the_oracle_hold_for_the_greatest_sizes() {
         all(oracle::bezier_faults(&net, (2, 2), (0, 0), 0, 57)),
         [false; 5]
     );
+    assert_eq!(
+        all(netfile::write_faults(&net, (MAX, MAX), MAX, 1)),
+        [true, true, true, false]
+    );
+    assert_eq!(all(netfile::write_faults(&net, (2, 2), 156, 1)), [false; 4]);
 }

@@ -1,6 +1,7 @@
 //! Several faults at once: the earliest number of the order is answered.
 
 use ups_tests::call::{Ask, Call, ASKS};
+use ups_tests::netfile;
 use ups_tests::nets::{self, Numbers};
 use ups_tests::oracle::{self, LIMIT};
 use ups_tests::random::Random;
@@ -17,9 +18,12 @@ fn base(ask: Ask) -> Call {
     Call::new(&net, SIZE, ask)
 }
 
-/// Makes the net long enough for its size, so that number 1 can stand alone.
+/// Makes the net and a file long enough for their size, so that number 1 can stand alone.
 fn lengthen(call: &mut Call) {
     call.net.resize(9 * call.w * call.h, 0);
+    if matches!(call.ask, Ask::Write { .. }) {
+        call.out_len = netfile::file_len(call.w, call.h).expect("a length");
+    }
 }
 
 fn size_faults() -> Vec<Fault> {
@@ -50,6 +54,7 @@ fn column(call: &mut Call, beyond: fn(usize) -> usize) {
             let last = w.wrapping_sub(1).wrapping_mul(1024);
             *p = beyond(last.saturating_add(1));
         }
+        Ask::Write { .. } => {}
     }
 }
 
@@ -62,6 +67,7 @@ fn row(call: &mut Call, beyond: fn(usize) -> usize) {
             let last = h.wrapping_sub(1).wrapping_mul(1024);
             *q = beyond(last.saturating_add(1));
         }
+        Ask::Write { .. } => {}
     }
 }
 
@@ -99,10 +105,20 @@ fn net_faults() -> Vec<Fault> {
     ]
 }
 
-fn output_faults() -> Vec<Fault> {
-    vec![|c| c.out_len = c.out_len.saturating_sub(1), |c| {
+fn no_count(call: &mut Call) {
+    if let Ask::Write { written_len } = &mut call.ask {
+        *written_len = 0;
+    }
+}
+
+fn output_faults(ask: Ask) -> Vec<Fault> {
+    let mut faults: Vec<Fault> = vec![|c| c.out_len = c.out_len.saturating_sub(1), |c| {
         c.out_len = 0
-    }]
+    }];
+    if matches!(ask, Ask::Write { .. }) {
+        faults.push(no_count);
+    }
+    faults
 }
 
 fn number_faults() -> Vec<Fault> {
@@ -119,10 +135,12 @@ fn faults(ask: Ask) -> Vec<(u32, Vec<Fault>)> {
         (6, place_faults(ask)),
         (3, number_faults()),
         (2, net_faults()),
-        (5, output_faults()),
+        (5, output_faults(ask)),
     ];
-    if matches!(ask, Ask::Vertex { .. }) {
-        faults.retain(|(number, _)| [1, 6, 2].contains(number));
+    match ask {
+        Ask::Vertex { .. } => faults.retain(|(number, _)| [1, 6, 2].contains(number)),
+        Ask::Write { .. } => faults.retain(|(number, _)| [1, 2, 5, 3].contains(number)),
+        _ => {}
     }
     faults
 }
@@ -235,11 +253,13 @@ fn random_calls() {
         let last = |side: usize| side.wrapping_sub(1).wrapping_mul(1024);
         let (p, q) = (index(last(w)), index(last(h)));
         let down = random.pick(&[0, 0, 0, 1, 1, 1, 2, u32::MAX]);
+        let written_len = random.pick(&[0, 1, 1, 1, 1, 2, 3]);
         let asks = [
             Ask::Vertex { i, j },
             Ask::Bezier { i, j, down },
             Ask::Surface { p, q },
             Ask::View { p, q },
+            Ask::Write { written_len },
         ];
         let mut call = Call::new(&net, (w, h), random.pick(&asks));
         if random.below(8) == 0 {

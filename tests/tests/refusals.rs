@@ -92,7 +92,7 @@ fn five_output_too_short() {
     for ask in &ASKS[1..] {
         let mut call = Call::new(&net, SIZE, *ask);
         let needed = call.out_len;
-        for out_len in [needed, needed + 1, needed + 2, 2 * needed, 200] {
+        for out_len in [needed, needed + 1, needed + 2, 2 * needed, needed + 200] {
             call.out_len = out_len;
             call.expect(0);
         }
@@ -101,6 +101,18 @@ fn five_output_too_short() {
             call.expect(5);
         }
     }
+}
+
+#[test]
+fn five_no_room_for_the_count_of_bytes() {
+    let net = net();
+    let expect = |written_len, refusal| {
+        Call::new(&net, SIZE, Ask::Write { written_len }).expect(refusal);
+    };
+    for written_len in [1, 2, 3, 100] {
+        expect(written_len, 0);
+    }
+    expect(0, 5);
 }
 
 #[test]
@@ -228,6 +240,22 @@ fn three_each_number_of_the_triangle_beyond_its_range() {
                     call.expect(0);
                 }
             }
+        }
+    }
+}
+
+#[test]
+fn three_each_number_of_a_written_net_beyond_its_range() {
+    let net = net();
+    for position in 0..net.len() {
+        let mut call = Call::new(&net, SIZE, Ask::Write { written_len: 1 });
+        for value in BEYOND {
+            call.net[position] = value;
+            call.expect(3);
+        }
+        for value in [LIMIT, -LIMIT] {
+            call.net[position] = value;
+            call.expect(0);
         }
     }
 }

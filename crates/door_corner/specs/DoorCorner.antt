@@ -10,6 +10,7 @@ use Rattle.net.specs.Net.{one, two, three, vertexAt, triangleAt, controlPoint, 
 use Rattle.surface.specs.BezierNet.{controlsOf, bezierPoints}
 use Rattle.surface.specs.SurfacePoint.{spline, coordinate}
 use Rattle.subdivision.specs.Refinement.{refinement, exactRefinement}
+use Rattle.netfile.specs.NetFile.{zKind, numberBytes, wordBytes}
 
 -- the nine numbers of vertex (i, j), where a = 1200i, b = 1200j and c1 has height z: 'x of c1, c2, c3 is 1200i + 600, 1200i - 600, 1200i;
 -- y is 1200j, 1200j + 600, 1200j - 600; z is 0 but for c1 of (0, 0)'
@@ -45,6 +46,10 @@ bezierZ z = bezierPoints false (controlsOf (field (doorCorner z) 2 2) (triangleA
 abbrev refinedZ : ℤ → ℕ → ℕ → List ℤ
 refinedZ z i j = map (refinement (field (doorCorner z) 2 2) (vertexAt i j)) (one ∷ two ∷ three ∷ [])
 
+-- the bytes of the word of a z, high byte first
+abbrev wordOfZ : ℤ → List ℤ
+wordOfZ z = map pos (numberBytes zKind z)
+
 -- whole numbers of document 01's list
 abbrev told : List ℕ → List ℤ
 told ns = map pos ns
@@ -65,9 +70,11 @@ cases =
     ∷ (refinedZ (pos 120) 1 0, told (0 ∷ 60 ∷ 60 ∷ []))
     ∷ (refinedZ (pos 120) 0 1, told (30 ∷ 0 ∷ 60 ∷ []))
     ∷ (bezierZ (pos 120), told (1440 ∷ 0 ∷ 0 ∷ 2880 ∷ 2160 ∷ 0 ∷ 0 ∷ 0 ∷ 0 ∷ 2880 ∷ 0 ∷ 0 ∷ 1440 ∷ 1080 ∷ 0 ∷ 1440 ∷ 1440 ∷ 0 ∷ 960 ∷ []))
+    -- 5F FF FF FF hex
+    ∷ (wordOfZ (negsuc 0), told (95 ∷ 255 ∷ 255 ∷ 255 ∷ []))
     ∷ []
 
 -- every case holds
 pub marked-cases : map (λ (c : Case). c .0) cases ≡ map (λ (c : Case). c .1) cases
-unfolding cases coordinate spline refinement exactRefinement rounded floorQuotient bezierPoints controlTriangle controlPoint
+unfolding cases coordinate spline refinement exactRefinement rounded floorQuotient bezierPoints controlTriangle controlPoint wordBytes
 marked-cases = refl

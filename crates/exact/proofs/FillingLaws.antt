@@ -2,14 +2,14 @@
 -- A loop over the whole of a lent output keeps `out ≡ over (runs n f) old`: `over-none` opens it and `over-more` closes a turn.
 -- An inner loop, which begins at a place, keeps `out ≡ sets old at (runs n f)`: `runs-none` and `runs-more`. A row of runs is one run of the outer loop.
 use mathlib.Core.Path.{_≡_, refl, sym, _∙_, ap}
-use mathlib.Core.List.{List, [], _∷_, _++_}
+use mathlib.Core.List.{List, [], _∷_, _++_, append-assoc}
 use Prim.Native.Nat.{ℕ, zero, suc, _+_, _*_, _-_, _<_, _≤_}
 use native.Mathlib.Nat.{add-zero, zero-add, add-suc, suc-add, suc-mul, zero-mul}
 use native.Mathlib.Numerals.{add-one}
 use native.Mathlib.Omega.{arith}
 use native.Mathlib.Decide.{decLt}
 use lib.ListN.{length, take, drop, getD, set, length-append, length-drop, List·getD-append}
-use lib.Seq.{take-suc, take-all, sets, sets-eq, take-at, drop-at, getD-append-add, drop-append-add, drop-drop}
+use lib.Seq.{take-add, take-suc, take-all, sets, sets-eq, take-at, drop-at, getD-append-add, drop-append-add, drop-drop}
 use lib.Arith.{digits-lt}
 use Rattle.exact.specs.Filling.{over, runs}
 
@@ -70,6 +70,9 @@ module _ {ℓ} {A : Type ℓ} where
       ap (λ (k : ℕ). sets (sets (set l at x) (suc at) xs) k ys) (add-suc at (length xs) ∙ sym (suc-add at (length xs)))
       ∙ sets-append xs (set l at x) (suc at) ys
 
+  pub sets-after : (l : List A) (at : ℕ) (xs ys : List A) {m : ℕ} → m ≡ at + length xs → sets (sets l at xs) m ys ≡ sets l at (xs ++ ys)
+  sets-after l at xs ys e = ap (λ (k : ℕ). sets (sets l at xs) k ys) e ∙ sets-append xs l at ys
+
   pub runs-none : (l : List A) (at : ℕ) (f : ℕ → List A) → l ≡ sets l at (runs 0 f)
   unfolding runs
   runs-none l at f = refl
@@ -126,3 +129,39 @@ module _ {ℓ} {A : Type ℓ} where
       ∙ drop-append-add before (drop (length before) old) k
       ∙ drop-drop k (length before) old
       ∙ ap (λ (m : ℕ). drop m old) (sym e))
+
+  -- ---- lists in parts of one length
+
+  -- a list is its parts
+  pub runs-of-parts : (l : List A) (s n : ℕ) → runs n (λ (i : ℕ). take s (drop (i * s) l)) ≡ take (n * s) l
+  unfolding runs
+  runs-of-parts l s zero = ap (λ (k : ℕ). take k l) (sym (zero-mul s))
+  runs-of-parts l s (suc n) =
+      ap (λ (x : List A). x ++ take s (drop (n * s) l)) (runs-of-parts l s n)
+      ∙ sym (take-add (n * s) s l)
+      ∙ ap (λ (k : ℕ). take k l) (sym (suc-mul n s))
+
+  -- a list that begins with another
+  pub record Begins (front l : List A) : Type ℓ where
+    pub rest : List A
+    pub whole : l ≡ front ++ rest
+
+  -- from the place of run i on, runs begin with it
+  pub run-begins : (n s : ℕ) (f : ℕ → List A) (after : List A) → ((i : ℕ) → i < n → length (f i) ≡ s) →
+      (i : ℕ) → i < n → Begins (f i) (drop (i * s) (runs n f ++ after))
+  unfolding runs
+  run-begins zero s f after h i k = absurd (omega arith)
+  run-begins (suc n) s f after h i k = go (run-begins n s f (f n ++ after) (λ j l. h j (omega arith)) i) (decLt i n)
+    where
+      joined : (runs n f ++ f n) ++ after ≡ runs n f ++ (f n ++ after)
+      joined = append-assoc (runs n f) (f n) after
+
+      go : (i < n → Begins (f i) (drop (i * s) (runs n f ++ (f n ++ after)))) → Dec (i < n) → Begins (f i) (drop (i * s) ((runs n f ++ f n) ++ after))
+      go before (yes l) = record { rest = before l .rest; whole = ap (drop (i * s)) joined ∙ before l .whole }
+      go before (no l) =
+          let last : i ≡ n = omega arith in
+          let long : length (runs n f) ≡ i * s = length-runs n s f (λ j m. h j (omega arith)) ∙ ap (λ (m : ℕ). m * s) (sym last) in
+          record {
+            rest = after;
+            whole = ap (drop (i * s)) joined ∙ drop-at (runs n f) (f n ++ after) (i * s) long ∙ ap (λ (m : ℕ). f m ++ after) (sym last);
+          }

@@ -2,10 +2,13 @@
 use mathlib.Core.Path.{_≡_, refl, sym, ap, subst, _∙_}
 use mathlib.Core.Bool.{Bool, true, false, _||_, cond}
 use mathlib.Core.List.{List, [], _∷_, _++_}
-use Prim.Native.Nat.{ℕ, _<_}
+use Prim.Native.Nat.{ℕ, zero, suc, _<_}
 use native.Mathlib.Omega.{arith}
+use native.Mathlib.Decide.{decLt}
 use lib.Dec.{T}
+use lib.ListN.{length}
 use borrow.Author.Tests.{eq-eqb, ne-eqb}
+use Rattle.exact.specs.Filling.{runs}
 use Rattle.net.specs.TurnedAway.{Fault, firstFault, accepted}
 
 -- `a || b` from a alone, and from b where a fails
@@ -51,3 +54,99 @@ pub fault-before : (fs gs : List Fault) → (firstFault fs ≡ 0 → ⊥) → fi
 fault-before [] gs h = absurd (h refl)
 fault-before ((true, n) ∷ fs) gs h = refl
 fault-before ((false, n) ∷ fs) gs h = fault-before fs gs h
+
+-- ---- lists of faults that follow one another
+
+-- no fault of the list is there
+abbrev pub Clear : List Fault → Type 0
+Clear [] = Unit {0}
+Clear ((there, n) ∷ faults) = (there ≡ false) × Clear faults
+
+-- each fault has a number above 0, as document 01's have
+abbrev pub Numbered : List Fault → Type 0
+Numbered [] = Unit {0}
+Numbered ((there, n) ∷ faults) = (0 < n) × Numbered faults
+
+pub clear-none : (fs : List Fault) → Clear fs → firstFault fs ≡ 0
+clear-none [] k = refl
+clear-none ((there, n) ∷ fs) k = sym (cond-false there n (firstFault fs) (k .0) (sym (clear-none fs (k .1))))
+
+pub none-clear : (fs : List Fault) → Numbered fs → firstFault fs ≡ 0 → Clear fs
+none-clear [] k e = tt
+none-clear ((there, n) ∷ fs) k e =
+    let q = fault-none there n (firstFault fs) (k .0) e in
+    (q .0, none-clear fs (k .1) (q .1))
+
+-- past a list without a fault the next one tells
+pub fault-after : (fs gs : List Fault) → Clear fs → firstFault gs ≡ firstFault (fs ++ gs)
+fault-after [] gs k = refl
+fault-after ((there, n) ∷ fs) gs k = cond-false there n (firstFault (fs ++ gs)) (k .0) (fault-after fs gs (k .1))
+
+pub clear-append : (fs gs : List Fault) → Clear fs → Clear gs → Clear (fs ++ gs)
+clear-append [] gs k l = l
+clear-append ((there, n) ∷ fs) gs k l = (k .0, clear-append fs gs (k .1) l)
+
+pub clear-parts : (fs gs : List Fault) → Clear (fs ++ gs) → Clear fs × Clear gs
+clear-parts [] gs k = (tt, k)
+clear-parts ((there, n) ∷ fs) gs k =
+    let q = clear-parts fs gs (k .1) in
+    ((k .0, q .0), q .1)
+
+pub numbered-append : (fs gs : List Fault) → Numbered fs → Numbered gs → Numbered (fs ++ gs)
+numbered-append [] gs k l = l
+numbered-append ((there, n) ∷ fs) gs k l = (k .0, numbered-append fs gs (k .1) l)
+
+-- runs of faults
+pub clear-runs : (n : ℕ) (f : ℕ → List Fault) → ((i : ℕ) → i < n → Clear (f i)) → Clear (runs n f)
+unfolding runs
+clear-runs zero f k = tt
+clear-runs (suc n) f k = clear-append (runs n f) (f n) (clear-runs n f (λ i h. k i (omega arith))) (k n (omega arith))
+
+pub clear-run : (n : ℕ) (f : ℕ → List Fault) → Clear (runs n f) → (i : ℕ) → i < n → Clear (f i)
+unfolding runs
+clear-run zero f k i h = absurd (omega arith)
+clear-run (suc n) f k i h =
+    let q = clear-parts (runs n f) (f n) k in
+    go (clear-run n f (q .0) i) (q .1) (decLt i n)
+  where
+    go : (i < n → Clear (f i)) → Clear (f n) → Dec (i < n) → Clear (f i)
+    go before last (yes l) = before l
+    go before last (no l) = subst (λ (j : ℕ). Clear (f j)) (omega arith) last
+
+-- the first run with a fault tells
+pub fault-in-runs : (n : ℕ) (f : ℕ → List Fault) (i : ℕ) {r : ℕ} → i < n → Clear (runs i f) → r ≡ firstFault (f i) → (r ≡ 0 → ⊥) → r ≡ firstFault (runs n f)
+unfolding runs
+fault-in-runs zero f i h k e there = absurd (omega arith)
+fault-in-runs (suc n) f i {r} h k e there = go (λ l. fault-in-runs n f i l k e there) (decLt i n)
+  where
+    go : (i < n → r ≡ firstFault (runs n f)) → Dec (i < n) → r ≡ firstFault (runs n f ++ f n)
+    go before (yes l) = before l ∙ fault-before (runs n f) (f n) (λ z. there (before l ∙ z))
+    go before (no l) =
+        let last : i ≡ n = omega arith in
+        e ∙ ap (λ (j : ℕ). firstFault (f j)) last ∙ fault-after (runs n f) (f n) (subst (λ (j : ℕ). Clear (runs j f)) last k)
+
+pub numbered-runs : (n : ℕ) (f : ℕ → List Fault) → ((i : ℕ) → Numbered (f i)) → Numbered (runs n f)
+unfolding runs
+numbered-runs zero f k = tt
+numbered-runs (suc n) f k = numbered-append (runs n f) (f n) (numbered-runs n f k) (k n)
+
+-- ---- an answer is a refusal's number and values, none where it is refused
+
+module _ {ℓ} {A : Type ℓ} (r : ℕ) (values : List A) where
+  -- what an accepted answer tells, and a refused one
+  pub answered : {l : List A} → _≡_ {A = ℕ × List A} (0, l) (r, cond (accepted r) values []) → (r ≡ 0) × (l ≡ values)
+  answered {l} e =
+      let z : r ≡ 0 = λ t. sym e t .0 in
+      (z, (λ t. e t .1) ∙ ap (λ (n : ℕ). cond (accepted n) values []) z)
+
+  pub not-accepted : {n : ℕ} → 0 < length values → _≡_ {A = ℕ × List A} (n, []) (r, cond (accepted r) values []) → r ≡ 0 → ⊥
+  not-accepted k e z =
+      let none : [] ≡ values = (λ t. e t .1) ∙ ap (λ (n : ℕ). cond (accepted n) values []) z in
+      omega (arith, ap length none, k)
+
+  -- and the way back
+  pub accepted-answer : {l : List A} → r ≡ 0 → l ≡ values → _≡_ {A = ℕ × List A} (0, l) (r, cond (accepted r) values [])
+  accepted-answer {l} z e = λ t. (sym z t, (e ∙ when-accepted r values [] z) t)
+
+  pub refused-answer : {n : ℕ} → n ≡ r → (n ≡ 0 → ⊥) → _≡_ {A = ℕ × List A} (n, []) (r, cond (accepted r) values [])
+  refused-answer {n} e k = λ t. (e t, when-refused r values [] (λ z. k (e ∙ z)) t)

@@ -1,18 +1,20 @@
 -- The net range: the code's two comparisons are the definition's one of the size, and what a list in range gives.
 use mathlib.Core.Path.{_≡_, refl, sym, ap}
 use mathlib.Core.Bool.{true, false, _||_}
-use mathlib.Core.List.{List, [], _∷_}
+use mathlib.Core.List.{List, [], _∷_, _++_}
 use Prim.Native.Nat.{ℕ, zero, suc, _+_, _≤_, _<_, suc-le-suc}
 use native.Mathlib.Nat.{le-of-suc-le-suc, not-suc-le-zero}
 use native.Mathlib.Numerals.{unary-clauses}
+use native.Mathlib.Omega.{arith}
 use lib.Dec.{ltb→lt, leb→le}
 use lib.IntN.{ℤ, pos, negsuc, natAbs}
 use lib.ListN.{length, getD, drop}
 use lib.Seq.{drop-cons}
 use lib.Signed.{_≤ℤ_, _<ℤ_, ltZ}
 use borrow.Author.Tests.{lt-ltb, le-ltb, ltb-false}
+use Rattle.exact.specs.Filling.{runs}
 use Rattle.net.specs.TurnedAway.{beyond, anyBeyond}
-use Rattle.net.proofs.Faults.{or-none}
+use Rattle.net.proofs.Faults.{or-none, or-no}
 
 pub beyond-below : (z : ℤ) → z <ℤ negsuc 16777215 → true ≡ beyond z
 beyond-below (pos n) h = absurd (h .lt)
@@ -31,3 +33,15 @@ pub in-range : (l : List ℤ) → anyBeyond l ≡ false → (i : ℕ) → i < le
 in-range [] e i h = absurd (not-suc-le-zero h)
 in-range (z ∷ zs) e zero h = ltb-false _ _ (or-none (beyond z) (anyBeyond zs) e .0)
 in-range (z ∷ zs) e (suc i) h = in-range zs (or-none (beyond z) (anyBeyond zs) e .1) i (le-of-suc-le-suc h)
+
+-- lists in range that follow one another
+pub any-append : (l m : List ℤ) → anyBeyond l ≡ false → anyBeyond m ≡ false → anyBeyond (l ++ m) ≡ false
+any-append [] m e f = f
+any-append (z ∷ zs) m e f =
+    let q = or-none (beyond z) (anyBeyond zs) e in
+    sym (or-no (beyond z) (anyBeyond (zs ++ m)) (q .0) (sym (any-append zs m (q .1) f)))
+
+pub any-runs : (n : ℕ) (f : ℕ → List ℤ) → ((i : ℕ) → i < n → anyBeyond (f i) ≡ false) → anyBeyond (runs n f) ≡ false
+unfolding runs
+any-runs zero f h = refl
+any-runs (suc n) f h = any-append (runs n f) (f n) (any-runs n f (λ i k. h i (omega arith))) (h n (omega arith))

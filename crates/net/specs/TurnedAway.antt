@@ -6,6 +6,7 @@ use Prim.Native.Nat.{ℕ}
 use lib.Dec.{leb, ltb, eqb}
 use lib.ListN.{length, replicate}
 use lib.IntN.{ℤ, pos, negsuc, natAbs}
+use Rattle.exact.specs.Filling.{over}
 use Rattle.net.specs.Net.{vertexAt, numbers, vertexNumbers}
 
 -- a fault: whether it is there, and its number
@@ -20,6 +21,12 @@ firstFault ((there, n) ∷ faults) = cond there n (firstFault faults)
 -- a refusal answers its number; 0 is accepted
 abbrev pub accepted : ℕ → Bool
 accepted n = eqb n 0
+
+module _ {ℓ} {A : Type ℓ} where
+  -- 'A refusal answers its number and changes no lent memory': the result over the front of a lent output where nothing is refused; else the
+  -- output as it was
+  abbrev pub outputAfter : ℕ → List A → List A → List A
+  outputAfter refusal result out = cond (accepted refusal) (over result out) out
 
 -- 1: a side outside 2 to 1,025
 abbrev pub badSide : ℕ → Bool
@@ -55,7 +62,8 @@ unfoldable pub vertexPart : List ℤ → ℕ → ℕ → ℕ → ℕ → List �
 vertexPart net w h i j =
     cond (accepted (vertexRefusal net w h i j)) (vertexNumbers net w (vertexAt i j)) []
 
--- worked cases: document 01's examples of 1, 2 and 3, the limits that are accepted, a missing vertex of a short net, and a part
+-- worked cases: document 01's examples of 1, 2 and 3, the limits that are accepted, a missing vertex of a short net, an output that is refused and one
+-- that is written, and a part
 examples :
     (vertexRefusal [] 1 2 0 0 ≡ 1)
     × (vertexRefusal (replicate 35 (pos 0)) 2 2 1 1 ≡ 2)
@@ -64,6 +72,10 @@ examples :
     × (badSize 1025 1025 ≡ false)
     × (badSize 1026 2 ≡ true)
 examples = (refl, refl, refl, refl, refl, refl)
+
+outputs : (_≡_ {A = List ℕ} (outputAfter 5 (7 ∷ []) (1 ∷ 2 ∷ [])) (1 ∷ 2 ∷ [])) × (_≡_ {A = List ℕ} (outputAfter 0 (7 ∷ []) (1 ∷ 2 ∷ [])) (7 ∷ 2 ∷ []))
+unfolding over
+outputs = (refl, refl)
 
 limits :
     (beyond (pos 16777217) ≡ true) × (beyond (pos 16777216) ≡ false) × (beyond (negsuc 16777215) ≡ false) × (beyond (negsuc 16777216) ≡ true)

@@ -8,9 +8,11 @@ pub use vertices::vertex;
 pub use vertices::vertex_refusal;
 
 // For the crates above, which are seen to meet what these ask.
+pub use sizes::bad_side;
 pub use sizes::bad_size;
 pub use sizes::short_net;
 pub use storage::any_beyond;
 pub use storage::load;
+pub use storage::number_beyond;
 pub use storage::store_point;
 pub use storage::vertex_beyond;

@@ -4,7 +4,7 @@ ghost use mathlib.Core.Bool.{false};
 ghost use Rattle.net.specs.TurnedAway.{badSide, badSize, shortNet};
 
 // Whether the count of vertices of one side is outside 2 to 1,025.
-fn bad_side(n: usize) -> bool
+pub fn bad_side(n: usize) -> bool
     ensures { λ r. ⌜ r ≡ badSide n ⌝ }
 {
     if n < 2 { true } else { 1025 < n }

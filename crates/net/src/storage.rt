@@ -43,7 +43,7 @@ pub fn store_point(point: [i32; 3], at: usize, out: &mut [i32])
 }
 
 // Whether a number is outside the net range. Both limits are compared with: the least i32 has no size that fits.
-fn number_beyond(z: i32) -> bool
+pub fn number_beyond(z: i32) -> bool
     ensures { λ r. ⌜ r ≡ beyond z ⌝ }
 {
     if z < -16777216 { true } else { 16777216 < z }

@@ -6,9 +6,8 @@ use Prim.Native.Nat.{ℕ}
 use lib.IntN.{ℤ, pos, negsuc}
 use lib.ListN.{length}
 use lib.Ieee.{Float, fin, binary64, ofInt, div}
-use Rattle.exact.specs.Filling.{over}
 use Rattle.net.specs.Net.{triangleAt}
-use Rattle.net.specs.TurnedAway.{accepted}
+use Rattle.net.specs.TurnedAway.{accepted, outputAfter}
 use Rattle.surface.specs.BezierNet.{bezierNumbers}
 use Rattle.surface.specs.SurfacePoint.{surfacePoint}
 use Rattle.surface.specs.TurnedAway.{bezierRefusal, pointRefusal}
@@ -40,7 +39,7 @@ bezierAnswer net w h i j down room = (bezierRefusal net w h i j down room, accep
 -- the Bézier net laid over the front of the lent output, which a refusal leaves as it was
 unfoldable pub bezierOutput : List ℤ → ℕ → ℕ → ℕ → ℕ → Bool → List ℤ → List ℤ
 bezierOutput net w h i j down out =
-    cond (accepted (bezierRefusal net w h i j down (length out))) (over (bezierNumbers net w (triangleAt i j down)) out) out
+    outputAfter (bezierRefusal net w h i j down (length out)) (bezierNumbers net w (triangleAt i j down)) out
 
 -- what a surface point answers
 unfoldable pub pointAnswer : List ℤ → ℕ → ℕ → ℕ → ℕ → ℕ × List ℤ

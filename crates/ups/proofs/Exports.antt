@@ -2,20 +2,22 @@
 use mathlib.Core.Path.{_≡_, refl, sym, ap, _∙_}
 use mathlib.Core.Bool.{Bool, true, false, cond, _||_}
 use mathlib.Core.List.{List, []}
-use Prim.Native.Nat.{ℕ}
+use Prim.Native.Nat.{ℕ, _≤_, _<_}
 use native.Mathlib.Omega.{arith}
 use lib.Dec.{ltb, eqb}
 use lib.IntN.{ℤ}
 use lib.ListN.{length}
-use Rattle.net.proofs.Faults.{cond-true, cond-false, when-refused}
+use lib.Seq.{sets}
 use Rattle.exact.specs.Filling.{over}
+use Rattle.exact.proofs.FillingLaws.{sets-over}
 use Rattle.net.specs.Net.{triangleAt}
-use Rattle.net.specs.TurnedAway.{badSize, shortNet, accepted}
+use Rattle.net.specs.TurnedAway.{badSize, shortNet, accepted, outputAfter}
+use Rattle.net.proofs.Faults.{answered, not-accepted, cond-true, cond-false, when-refused}
 use Rattle.surface.specs.BezierNet.{bezierNumbers}
 use Rattle.surface.specs.SurfacePoint.{chosen}
 use Rattle.surface.specs.Answers.{bezierOutput}
 use Rattle.surface.specs.TurnedAway.{noTriangle, noPlace, triangleBeyond, bezierRefusal, pointRefusal}
-use Rattle.ups.specs.Exports.{outputAfter, bezierExport, pointExport, withRoom}
+use Rattle.ups.specs.Exports.{bezierExport, pointExport, withRoom}
 
 -- a test that is joined by one that fails, and by one that holds
 or-false : (a : Bool) {b : Bool} → b ≡ false → a ≡ (a || b)
@@ -66,18 +68,6 @@ pub point-export : (net : List ℤ) (w h p q room : ℕ) → withRoom (ltb room 
 point-export net w h p q room =
     in-place (badSize w h) (noPlace 1024 w h p q) (shortNet net w h) (ltb room 3) (triangleBeyond net w (chosen 1024 w h p q))
 
--- an answer is a refusal's number and its values, which are none where it is refused: what an accepted answer tells, and a refused one
-module _ {A : Type 0} (r : ℕ) (values : List A) where
-  pub answered : {l : List A} → _≡_ {A = ℕ × List A} (0, l) (r, cond (accepted r) values []) → (r ≡ 0) × (l ≡ values)
-  answered {l} e =
-      let z : r ≡ 0 = λ t. sym e t .0 in
-      (z, (λ t. e t .1) ∙ ap (λ (n : ℕ). cond (accepted n) values []) z)
-
-  pub not-accepted : {n : ℕ} → length values ≡ 3 → _≡_ {A = ℕ × List A} (n, []) (r, cond (accepted r) values []) → r ≡ 0 → ⊥
-  not-accepted k e z =
-      let none : [] ≡ values = (λ t. e t .1) ∙ ap (λ (n : ℕ). cond (accepted n) values []) z in
-      omega (arith, ap length none, k)
-
 -- a refusal stays one, whatever the room
 still-refused : (short : Bool) (n : ℕ) → (n ≡ 0 → ⊥) → withRoom short n ≡ 0 → ⊥
 still-refused false n k e = k e
@@ -100,3 +90,19 @@ module _ {A : Type 0} (net : List ℤ) (w h p q : ℕ) (out result : List A) whe
     r ∙ ap (withRoom (ltb (length out) 3)) e ∙ point-export net w h p q (length out),
     when-refused n (over result out) out (λ z. still-refused (ltb (length out) 3) m (λ y. k (sym e ∙ y)) (sym r ∙ z)),
   )
+
+-- an answer with values that go into an output of their own: what the export answers, and what stands in its two outputs
+module _ {A : Type 0} (r : ℕ) (values counts : List ℕ) (result out : List A) where
+  pub exported : {l m : List ℕ} {o : List A} → _≡_ {A = ℕ × List ℕ} (0, l) (r, cond (accepted r) values []) → length values ≤ length counts →
+      m ≡ sets counts 0 l → o ≡ outputAfter r result out →
+      (0 ≡ r) × ((o ≡ outputAfter 0 result out) × (m ≡ outputAfter 0 values counts))
+  exported e room f g =
+      let told = answered r values e in
+      (sym (told .0), (g ∙ ap (λ (n : ℕ). outputAfter n result out) (told .0), f ∙ ap (sets counts 0) (told .1) ∙ sets-over values counts room))
+
+  pub not-exported : {n : ℕ} {o : List A} → 0 < length values → _≡_ {A = ℕ × List ℕ} (n, []) (r, cond (accepted r) values []) → o ≡ outputAfter r result out →
+      (n ≡ r) × ((o ≡ outputAfter n result out) × (counts ≡ outputAfter n values counts))
+  not-exported {n} some e g =
+      let same : n ≡ r = λ t. e t .0 in
+      let there = not-accepted r values some e in
+      (same, (g ∙ ap (λ (k : ℕ). outputAfter k result out) (sym same), when-refused n (over values counts) counts (λ z. there (sym same ∙ z))))

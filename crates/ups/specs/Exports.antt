@@ -5,16 +5,11 @@ use mathlib.Core.List.{List, [], _∷_}
 use Prim.Native.Nat.{ℕ}
 use lib.Dec.{ltb, eqb}
 use lib.IntN.{ℤ}
-use Rattle.exact.specs.Filling.{over}
 use Rattle.net.specs.Net.{triangleAt}
-use Rattle.net.specs.TurnedAway.{firstFault, badSize, shortNet, accepted}
+use Rattle.net.specs.TurnedAway.{firstFault, badSize, shortNet}
 use Rattle.surface.specs.SurfacePoint.{chosen}
 use Rattle.surface.specs.TurnedAway.{noTriangle, noPlace, triangleBeyond}
-
-module _ {ℓ} {A : Type ℓ} where
-  -- the result over the front of a lent output where nothing is refused; else the output as it was
-  abbrev pub outputAfter : ℕ → List A → List A → List A
-  outputAfter refusal result out = cond (accepted refusal) (over result out) out
+use Rattle.netfile.specs.TurnedAway.{writeRefusal, noRoom, readRefusal, shortFor}
 
 -- `down` is 0 for the up triangle and 1 for the down triangle; another number names no triangle
 abbrev pub bezierExport : List ℤ → ℕ → ℕ → ℕ → ℕ → ℕ → ℕ → ℕ
@@ -41,3 +36,11 @@ pointExport net w h p q room =
 -- a refusal of a point, 0 for none, where the output is too short for it: 5 comes before 3
 abbrev pub withRoom : Bool → ℕ → ℕ
 withRoom short n = cond short (cond (eqb n 0 || eqb n 3) 5 n) n
+
+-- the count of bytes needs room for one number, and 5 is told of either output
+abbrev pub writeExport : List ℤ → ℕ → ℕ → ℕ → ℕ → ℕ
+writeExport net w h room counts = writeRefusal net w h (ltb counts 1 || noRoom w h room)
+
+-- width and height need room for two
+abbrev pub readExport : List ℕ → ℕ → ℕ → ℕ
+readExport file room sides = readRefusal file (ltb sides 2 || shortFor file room)

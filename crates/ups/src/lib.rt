@@ -2,6 +2,10 @@
 use net::bad_size;
 use net::store_point;
 use net::vertex_refusal;
+use netfile::ReadAnswer;
+use netfile::WriteAnswer;
+use netfile::read_with;
+use netfile::write_with;
 use surface::Answer;
 use surface::PointAnswer;
 use surface::ViewAnswer;
@@ -16,11 +20,12 @@ ghost use lib.Dec.{ltb, eqb};
 ghost use lib.ListN.{length};
 ghost use Rattle.exact.specs.Filling.{over};
 ghost use Rattle.net.specs.Net.{triangleAt};
-ghost use Rattle.net.specs.TurnedAway.{vertexRefusal};
+ghost use Rattle.net.specs.TurnedAway.{outputAfter, vertexRefusal};
 ghost use Rattle.surface.specs.BezierNet.{bezierNumbers};
 ghost use Rattle.surface.specs.SurfacePoint.{surfacePoint};
 ghost use Rattle.surface.specs.Answers.{viewPoint};
-ghost use Rattle.ups.specs.Exports.{outputAfter, bezierExport, pointExport, withRoom};
+ghost use Rattle.netfile.specs.NetFile.{netFile, fileSize, fileWidth, fileHeight, fileNumbers};
+ghost use Rattle.ups.specs.Exports.{bezierExport, pointExport, withRoom, writeExport, readExport};
 
 // 1, 6, 2, or 0: the companion of the vertex part.
 #[no_mangle]
@@ -131,5 +136,46 @@ pub extern "C" fn ups_view_point(
             0
         }
         ViewAnswer::Refused(n) => with_room(n, out.len()),
+    }
+}
+
+// The net's file into `out`, and the count of its bytes into `written`.
+#[no_mangle]
+pub extern "C" fn ups_write(
+    net: &[i32],
+    w: usize,
+    h: usize,
+    out: &mut [u8],
+    written: &mut [u64],
+) -> u32
+    ensures { λ r. ⌜ r ≡ writeExport (now (net .entry)) w h (length (now (out .entry))) (length (now (written .entry))) ⌝ }
+    ensures { λ r. ⌜ now (out .exit) ≡ outputAfter r (netFile (now (net .entry)) w h) (now (out .entry)) ⌝ }
+    ensures { λ r. ⌜ now (written .exit) ≡ outputAfter r (fileSize w h ∷ []) (now (written .entry)) ⌝ }
+{
+    let answer = write_with(net, w, h, written.len() < 1, out);
+    match answer {
+        WriteAnswer::Written(n) => {
+            written[0] = n as u64;
+            0
+        }
+        WriteAnswer::Refused(n) => n,
+    }
+}
+
+// The numbers of a file into `net`, and its width and height into `size`.
+#[no_mangle]
+pub extern "C" fn ups_read(file: &[u8], net: &mut [i32], size: &mut [u64]) -> u32
+    ensures { λ r. ⌜ r ≡ readExport (now (file .entry)) (length (now (net .entry))) (length (now (size .entry))) ⌝ }
+    ensures { λ r. ⌜ now (net .exit) ≡ outputAfter r (fileNumbers (now (file .entry))) (now (net .entry)) ⌝ }
+    ensures { λ r. ⌜ now (size .exit) ≡ outputAfter r (fileWidth (now (file .entry)) ∷ fileHeight (now (file .entry)) ∷ []) (now (size .entry)) ⌝ }
+{
+    let answer = read_with(file, size.len() < 2, net);
+    match answer {
+        ReadAnswer::Size(w, h) => {
+            size[0] = w as u64;
+            size[1] = h as u64;
+            0
+        }
+        ReadAnswer::Refused(n) => n,
     }
 }

@@ -2,17 +2,19 @@
 use mathlib.Core.List.{List, [], _∷_}
 use mathlib.Core.Bool.{true, false}
 use mathlib.Core.Path.{refl, sym, ap, _∙_}
+use lib.Dec.{lit<}
 use lib.ListN.{length, set}
 use lib.IntN.{ℤ}
 use mir.Syntax.{w32}
 use borrow.Author.Tests.{lt-ltb, le-ltb}
 use borrow.Author.Needs.{needs}
+use Rattle.exact.specs.Filling.{over}
 use Rattle.exact.proofs.SignedCode.{reads-back}
 use Rattle.exact.proofs.FillingLaws.{sets-over}
-use Rattle.exact.specs.Filling.{over}
+use Rattle.net.proofs.Faults.{answered, not-accepted}
 use Rattle.surface.specs.Answers.{pointTold, pointAnswer}
 use Rattle.surface.specs.SurfacePoint.{surfacePoint}
-use Rattle.ups.proofs.Exports.{answered, not-accepted, point-refused, point-accepted}
+use Rattle.ups.proofs.Exports.{point-refused, point-accepted}
 use Rattle.ups.proofs.ups_surface_point.Statement.{statement}
 use Rattle.ups.proofs.ups_surface_point.Tie as tie
 
@@ -67,7 +69,7 @@ returns-3 c =
     let told = sym (ap pointTold (k .answer2 .given .1)) ∙ k .before .before .surface-point .ensures in
     point-refused (a .net .now) (a .w) (a .h) (a .p) (a .q) (a .out .now) (surfacePoint (a .net .now) (a .w) (a .h) (a .p) (a .q))
     (λ t. told t .0)
-    (not-accepted _ (surfacePoint (a .net .now) (a .w) (a .h) (a .p) (a .q)) refl told)
+    (not-accepted _ (surfacePoint (a .net .now) (a .w) (a .h) (a .p) (a .q)) (lit< tt) told)
     (c .with-room .ensures)
 
 pub ups-surface-point-spec : {M : Type 1} → statement M

@@ -2,13 +2,15 @@
 use mathlib.Core.List.{List}
 use mathlib.Core.Bool.{true, false}
 use mathlib.Core.Path.{refl, sym, ap, _∙_}
+use lib.Dec.{lit<}
 use lib.ListN.{length}
 use lib.Ieee.{Float}
 use borrow.Author.Tests.{lt-ltb, le-ltb}
 use borrow.Author.Needs.{needs}
 use Rattle.exact.specs.Filling.{over}
+use Rattle.net.proofs.Faults.{answered, not-accepted}
 use Rattle.surface.specs.Answers.{viewTold, viewPoint, viewAnswer}
-use Rattle.ups.proofs.Exports.{answered, not-accepted, point-refused, point-accepted}
+use Rattle.ups.proofs.Exports.{point-refused, point-accepted}
 use Rattle.ups.proofs.ups_view_point.Statement.{statement}
 use Rattle.ups.proofs.ups_view_point.Tie as tie
 
@@ -58,7 +60,7 @@ returns-3 c =
     let told = sym (ap viewTold (k .answer2 .given .1)) ∙ k .before .before .view-point .ensures in
     point-refused (a .net .now) (a .w) (a .h) (a .p) (a .q) (a .out .now) (viewPoint (a .net .now) (a .w) (a .h) (a .p) (a .q))
     (λ t. told t .0)
-    (not-accepted _ (viewPoint (a .net .now) (a .w) (a .h) (a .p) (a .q)) refl told)
+    (not-accepted _ (viewPoint (a .net .now) (a .w) (a .h) (a .p) (a .q)) (lit< tt) told)
     (c .with-room .ensures)
 
 pub ups-view-point-spec : {M : Type 1} → statement M

@@ -1,0 +1,103 @@
+//! The net file in plain Rust, to compare the library with.
+
+use crate::plain::{check_lengths, check_size, in_range, Refusal};
+
+const WIDTH: u32 = 1;
+const HEIGHT: u32 = 2;
+const POINT: [u32; 3] = [3, 4, 5];
+const END: u32 = 6;
+const PAYLOAD: u32 = 0x0fff_ffff;
+
+fn word(kind: u32, payload: u32) -> [u8; 4] {
+    (kind << 28 | payload & PAYLOAD).to_be_bytes()
+}
+
+#[inline(never)]
+pub fn write(
+    net: &[i32],
+    (w, h): (usize, usize),
+    out: &mut [u8],
+    written: &mut [u64],
+) -> Result<(), Refusal> {
+    check_size(w, h)?;
+    let count = 9 * w * h;
+    let len = 4 * (count + 3);
+    check_lengths(net, (w, h), out.len(), len)?;
+    let written = written.first_mut().ok_or(5_u32)?;
+    let net = &net[..count];
+    if !net.iter().all(in_range) {
+        return Err(3);
+    }
+    let (sides, rest) = out[..len].split_at_mut(8);
+    let (numbers, end) = rest.split_at_mut(4 * count);
+    sides[..4].copy_from_slice(&word(WIDTH, w as u32));
+    sides[4..].copy_from_slice(&word(HEIGHT, h as u32));
+    for (bytes, point) in numbers.chunks_exact_mut(12).zip(net.chunks_exact(3)) {
+        for ((bytes, &x), kind) in bytes.chunks_exact_mut(4).zip(point).zip(POINT) {
+            bytes.copy_from_slice(&word(kind, x as u32));
+        }
+    }
+    end.copy_from_slice(&word(END, 0));
+    *written = len as u64;
+    Ok(())
+}
+
+/// The payload of the next word, which must have this kind, and the bytes after the word.
+fn next(file: &[u8], kind: u32) -> Result<(u32, &[u8]), Refusal> {
+    let (bytes, rest) = file.split_first_chunk().ok_or(7_u32)?;
+    let word = u32::from_be_bytes(*bytes);
+    if word >> 28 != kind {
+        return Err(8);
+    }
+    Ok((word & PAYLOAD, rest))
+}
+
+fn next_side(file: &[u8], kind: u32) -> Result<(usize, &[u8]), Refusal> {
+    let (side, rest) = next(file, kind)?;
+    if !(2..=1025).contains(&side) {
+        return Err(1);
+    }
+    Ok((side as usize, rest))
+}
+
+/// The number of a word: its lower 28 bits in two's complement.
+fn number(word: u32) -> i32 {
+    (word << 4) as i32 >> 4
+}
+
+/// The bytes after the numbers and the end word, all of which are looked at.
+fn after_end(numbers: &[u8], points: usize) -> Result<&[u8], Refusal> {
+    let mut rest = numbers;
+    for _ in 0..points {
+        for kind in POINT {
+            let (payload, after) = next(rest, kind)?;
+            if !in_range(&number(payload)) {
+                return Err(3);
+            }
+            rest = after;
+        }
+    }
+    match next(rest, END)? {
+        (0, rest) => Ok(rest),
+        _ => Err(8),
+    }
+}
+
+#[inline(never)]
+pub fn read(file: &[u8], net: &mut [i32], size: &mut [u64]) -> Result<(), Refusal> {
+    let (w, rest) = next_side(file, WIDTH)?;
+    let (h, numbers) = next_side(rest, HEIGHT)?;
+    let count = 9 * w * h;
+    if net.len() < count || size.len() < 2 {
+        return Err(5);
+    }
+    // The whole file is looked through before the first number is stored.
+    if !after_end(numbers, count / 3)?.is_empty() {
+        return Err(9);
+    }
+    for (x, bytes) in net[..count].iter_mut().zip(numbers.as_chunks().0) {
+        *x = number(u32::from_be_bytes(*bytes));
+    }
+    size[..2].copy_from_slice(&[w as u64, h as u64]);
+    Ok(())
+}

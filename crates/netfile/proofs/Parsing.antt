@@ -1,0 +1,70 @@
+-- What a parsed word and a refusal number tell of the faults that were looked for, and of those that come after them.
+use mathlib.Core.Path.{_≡_, sym, ap, _∙_}
+use mathlib.Core.List.{List, [], _∷_, _++_}
+use Prim.Native.Nat.{ℕ, _+_, _-_, _*_, _≤_}
+use native.Mathlib.Omega.{arith}
+use lib.Dec.{lit<}
+use lib.ListN.{length, getD, take, drop, length-drop}
+use lib.Seq.{take-all}
+use borrow.Author.Tests.{ltb-false}
+use Rattle.net.specs.TurnedAway.{Fault, firstFault}
+use Rattle.net.proofs.Faults.{Clear, Numbered, none-clear, clear-parts, numbered-append, answered, not-accepted, fault-before}
+use Rattle.netfile.specs.NetFile.{xKind, yKind, zKind, fromPoint}
+use Rattle.netfile.specs.TurnedAway.{wordFaults, sideFaults, numberFaults, pointFaults}
+use Rattle.netfile.specs.Answers.{answer}
+
+-- ---- an answer that was matched
+
+module _ (fs : List Fault) where
+  -- no fault is there, and the value is the one asked for
+  pub parsed : (v : ℕ) {p : ℕ} → Numbered fs → _≡_ {A = ℕ × List ℕ} (0, p ∷ []) (answer (firstFault fs) (v ∷ [])) → Clear fs × (p ≡ v)
+  parsed v {p} k e =
+      let q = answered (firstFault fs) (v ∷ []) e in
+      (none-clear fs k (q .0), ap (λ (l : List ℕ). getD l 0 0) (q .1))
+
+  -- the first fault is there, whatever comes after
+  pub refused : (gs : List Fault) (v : ℕ) {n : ℕ} → _≡_ {A = ℕ × List ℕ} (n, []) (answer (firstFault fs) (v ∷ [])) →
+      (n ≡ firstFault (fs ++ gs)) × (n ≡ 0 → ⊥)
+  refused gs v {n} e =
+      let told : n ≡ firstFault fs = λ t. e t .0 in
+      let there = not-accepted (firstFault fs) (v ∷ []) (lit< tt) e in
+      (told ∙ fault-before fs gs there, λ z. there (sym told ∙ z))
+
+  -- ---- a refusal number
+
+  pub refuses : (gs : List Fault) {n : ℕ} → n ≡ firstFault fs → (n ≡ 0 → ⊥) → n ≡ firstFault (fs ++ gs)
+  refuses gs e k = e ∙ fault-before fs gs (λ z. k (e ∙ z))
+
+  pub passes : {n : ℕ} → Numbered fs → n ≡ firstFault fs → n ≡ 0 → Clear fs
+  passes k e z = none-clear fs k (sym e ∙ z)
+
+-- ---- the faults have numbers
+
+pub word-numbered : (left : List ℕ) (kind : ℕ) → Numbered (wordFaults left kind)
+word-numbered left kind = (lit< tt, (lit< tt, tt))
+
+pub side-numbered : (left : List ℕ) (kind : ℕ) → Numbered (sideFaults left kind)
+side-numbered left kind = (lit< tt, (lit< tt, (lit< tt, tt)))
+
+pub number-numbered : (left : List ℕ) (kind : ℕ) → Numbered (numberFaults left kind)
+number-numbered left kind = (lit< tt, (lit< tt, (lit< tt, tt)))
+
+pub point-numbered : (left : List ℕ) → Numbered (pointFaults left)
+point-numbered left =
+    numbered-append (numberFaults left xKind) (numberFaults (drop 4 left) yKind ++ numberFaults (drop 8 left) zKind) (number-numbered left xKind)
+    (numbered-append (numberFaults (drop 4 left) yKind) (numberFaults (drop 8 left) zKind) (number-numbered (drop 4 left) yKind) (number-numbered (drop 8 left) zKind))
+
+-- the three words of a control point are there
+pub point-long : (left : List ℕ) → Clear (pointFaults left) → 12 ≤ length left
+point-long left k =
+    let y = clear-parts (numberFaults left xKind) (numberFaults (drop 4 left) yKind ++ numberFaults (drop 8 left) zKind) k .1 in
+    let z = clear-parts (numberFaults (drop 4 left) yKind) (numberFaults (drop 8 left) zKind) y .1 in
+    omega (arith, ltb-false (length (drop 8 left)) 4 (z .0), length-drop 8 left)
+
+-- and so the next one begins within the file
+pub next-begins : (file : List ℕ) (i : ℕ) → Clear (pointFaults (fromPoint file i)) → 8 + 12 * (i + 1) ≤ length file
+next-begins file i k = omega (arith, point-long (fromPoint file i) k, length-drop (8 + 12 * i) file)
+
+-- the part of a slice from a place on
+pub part-from : (l : List ℕ) (n : ℕ) → take (length l - n) (drop n l) ≡ drop n l
+part-from l n = take-all (length l - n) (drop n l) (omega (arith, length-drop n l))

@@ -1,0 +1,113 @@
+-- What the reader's faults tell: of the first two words, of the rest, and of the whole file.
+use mathlib.Core.Path.{_≡_, sym, _∙_}
+use mathlib.Core.Bool.{Bool, false, _||_}
+use mathlib.Core.List.{List, [], _∷_}
+use Prim.Native.Nat.{ℕ, zero, suc, _+_, _*_, _≤_}
+use native.Mathlib.Omega.{arith}
+use lib.Dec.{lit<}
+use lib.IntN.{ℤ}
+use lib.ListN.{length, drop, length-drop}
+use borrow.Author.Tests.{ltb-false}
+use Rattle.exact.specs.Filling.{over, runs}
+use Rattle.net.specs.Net.{numbers}
+use Rattle.net.specs.TurnedAway.{firstFault, badSide, badSize}
+use Rattle.net.proofs.Faults.{Clear, Numbered, none-clear, clear-parts, clear-run, fault-before, fault-after, numbered-append, numbered-runs, answered, not-accepted, accepted-answer, refused-answer, when-accepted, when-refused, or-no, or-none}
+use Rattle.netfile.specs.NetFile.{points, fileWidth, fileHeight, fileNumbers, fromPoint}
+use Rattle.netfile.specs.TurnedAway.{pointFaults, endFaults, headFaults, bodyFaults, readFaults, readRefusal, shortFor}
+use Rattle.netfile.specs.Answers.{headAnswer, readAnswer, readNet}
+use Rattle.netfile.proofs.Parsing.{point-numbered, next-begins}
+
+-- ---- the faults have numbers
+
+pub head-numbered : (file : List ℕ) (short : Bool) → Numbered (headFaults file short)
+head-numbered file short = (lit< tt, (lit< tt, (lit< tt, (lit< tt, (lit< tt, (lit< tt, (lit< tt, tt)))))))
+
+pub end-numbered : (left : List ℕ) → Numbered (endFaults left)
+end-numbered left = (lit< tt, (lit< tt, (lit< tt, (lit< tt, tt))))
+
+pub points-numbered : (file : List ℕ) (n : ℕ) → Numbered (runs n (λ i. pointFaults (fromPoint file i)))
+points-numbered file n = numbered-runs n (λ i. pointFaults (fromPoint file i)) (λ i. point-numbered (fromPoint file i))
+
+pub body-numbered : (file : List ℕ) (n : ℕ) → Numbered (bodyFaults file n)
+body-numbered file n =
+    numbered-append (runs n (λ i. pointFaults (fromPoint file i))) (endFaults (fromPoint file n)) (points-numbered file n) (end-numbered (fromPoint file n))
+
+-- where nothing is refused, no fault is there, and the lent outputs are long enough
+pub read-parts : (file : List ℕ) (short : Bool) → readRefusal file short ≡ 0 →
+    Clear (headFaults file short) × Clear (bodyFaults file (points (fileWidth file) (fileHeight file)))
+read-parts file short none =
+    let n = points (fileWidth file) (fileHeight file) in
+    clear-parts (headFaults file short) (bodyFaults file n)
+    (none-clear (readFaults file short) (numbered-append (headFaults file short) (bodyFaults file n) (head-numbered file short) (body-numbered file n)) none)
+
+pub read-fits : (file : List ℕ) (short : Bool) → readRefusal file short ≡ 0 → short ≡ false
+read-fits file short none = read-parts file short none .0 .1 .1 .1 .1 .1 .1 .0
+
+-- ---- the words that are there
+
+-- two sides in their range, and room for their numbers
+pub record GoodHead (file : List ℕ) (room : ℕ) : Type 0 where
+  pub there : 8 ≤ length file
+  pub size : badSize (fileWidth file) (fileHeight file) ≡ false
+  pub room-enough : numbers (fileWidth file) (fileHeight file) ≤ room
+
+pub good-head : (file : List ℕ) (other : Bool) (room : ℕ) → Clear (headFaults file (other || shortFor file room)) → GoodHead file room
+good-head file other room k =
+    record {
+      there = omega (arith, ltb-false (length (drop 4 file)) 4 (k .1 .1 .1 .0), length-drop 4 file);
+      size = sym (or-no (badSide (fileWidth file)) (badSide (fileHeight file)) (k .1 .1 .0) (sym (k .1 .1 .1 .1 .1 .0)));
+      room-enough = ltb-false room (numbers (fileWidth file) (fileHeight file)) (or-none other (shortFor file room) (k .1 .1 .1 .1 .1 .1 .0) .1);
+    }
+
+-- n control points without a fault end within the file
+pub points-there : (file : List ℕ) (n : ℕ) → 8 ≤ length file → Clear (runs n (λ i. pointFaults (fromPoint file i))) → 8 + 12 * n ≤ length file
+points-there file zero h k = h
+points-there file (suc n) h k =
+    let last = next-begins file n (clear-run (suc n) (λ i. pointFaults (fromPoint file i)) k n (omega arith)) in
+    omega (arith, last)
+
+-- ---- what the reader answers, and what it leaves in the lent net
+
+module _ (file : List ℕ) (short : Bool) (net : List ℤ) where
+  abbrev body : ℕ
+  body = points (fileWidth file) (fileHeight file)
+
+  abbrev sides : List ℕ
+  sides = fileWidth file ∷ fileHeight file ∷ []
+
+  -- the first two words were answered
+  pub head-found : {w h : ℕ} → _≡_ {A = ℕ × List ℕ} (0, w ∷ h ∷ []) (headAnswer file short) →
+      Clear (headFaults file short) × (_≡_ {A = List ℕ} (w ∷ h ∷ []) sides)
+  head-found e =
+      let q = answered (firstFault (headFaults file short)) sides e in
+      (none-clear (headFaults file short) (head-numbered file short) (q .0), q .1)
+
+  turned-away : {n : ℕ} → n ≡ readRefusal file short → (n ≡ 0 → ⊥) →
+      (_≡_ {A = ℕ × List ℕ} (n, []) (readAnswer file short)) × (net ≡ readNet file short net)
+  turned-away e there = (
+    refused-answer (readRefusal file short) sides e there,
+    when-refused (readRefusal file short) (over (fileNumbers file) net) net (λ z. there (e ∙ z)),
+  )
+
+  -- or refused
+  pub head-refused : {n : ℕ} → _≡_ {A = ℕ × List ℕ} (n, []) (headAnswer file short) →
+      (_≡_ {A = ℕ × List ℕ} (n, []) (readAnswer file short)) × (net ≡ readNet file short net)
+  head-refused {n} e =
+      let told : n ≡ firstFault (headFaults file short) = λ t. e t .0 in
+      let there = not-accepted (firstFault (headFaults file short)) sides (lit< tt) e in
+      turned-away (told ∙ fault-before (headFaults file short) (bodyFaults file body) there) (λ z. there (sym told ∙ z))
+
+  -- the rest was refused
+  pub body-refused : {n : ℕ} → Clear (headFaults file short) → n ≡ firstFault (bodyFaults file body) → (n ≡ 0 → ⊥) →
+      (_≡_ {A = ℕ × List ℕ} (n, []) (readAnswer file short)) × (net ≡ readNet file short net)
+  body-refused k e there = turned-away (e ∙ fault-after (headFaults file short) (bodyFaults file body) k) there
+
+  -- or there is no fault
+  pub taken : {l : List ℤ} {values : List ℕ} → Clear (headFaults file short) → firstFault (bodyFaults file body) ≡ 0 → values ≡ sides →
+      l ≡ over (fileNumbers file) net →
+      (_≡_ {A = ℕ × List ℕ} (0, values) (readAnswer file short)) × (l ≡ readNet file short net)
+  taken {l} {values} k z v e =
+      let none : readRefusal file short ≡ 0 = sym (fault-after (headFaults file short) (bodyFaults file body) k) ∙ z in (
+        accepted-answer (readRefusal file short) sides none v,
+        e ∙ when-accepted (readRefusal file short) (over (fileNumbers file) net) net none,
+      )

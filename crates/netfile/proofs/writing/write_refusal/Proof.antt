@@ -1,0 +1,132 @@
+-- `netfile::writing::write_refusal` meets its contract.
+use mathlib.Core.Path.{_≡_, refl, sym, ap, _∙_}
+use mathlib.Core.Bool.{Bool, false, cond, _||_}
+use Prim.Native.Nat.{ℕ, _-_, _*_, _≤_}
+use native.Mathlib.Omega.{arith}
+use lib.ListN.{length, take}
+use borrow.Author.Needs.{needs}
+use borrow.Author.Tests.{lt-ltb, le-ltb, ltb-false}
+use Rattle.net.specs.TurnedAway.{badSize, shortNet, anyBeyond}
+use Rattle.net.specs.Net.{numbers}
+use Rattle.net.proofs.Places.{good-size, few-vertices}
+use Rattle.net.proofs.Faults.{cond-true, cond-false, or-no, or-yes}
+use Rattle.netfile.specs.TurnedAway.{noRoom, writeRefusal}
+use Rattle.netfile.proofs.writing.write_refusal.Statement.{statement}
+use Rattle.netfile.proofs.writing.write_refusal.Tie as tie
+
+module _ (c : tie.Else1) where
+  size : badSize (c .before .before .args .w) (c .before .before .args .h) ≡ false
+  size = sym (c .before .bad-size .ensures) ∙ c .if1 .left
+
+  few : c .before .before .args .w * c .before .before .args .h ≤ 1050625
+  few = few-vertices (good-size (c .before .before .args .w) (c .before .before .args .h) size)
+
+module _ (c : tie.Else2) where
+  abbrev at : tie.Else1
+  at = c .before .before
+
+  long : shortNet (at .before .before .args .net .now) (at .before .before .args .w) (at .before .before .args .h) ≡ false
+  long = sym (c .before .short-net .ensures) ∙ c .if2 .left
+
+  abbrev start : tie.Start
+  start = at .before .before
+
+  abbrev short : Bool
+  short = start .args .short || noRoom (start .args .w) (start .args .h) (start .args .room)
+
+  -- past 1 and 2
+  past : {n : ℕ} → n ≡ cond short 5 (cond (anyBeyond (take (numbers (start .args .w) (start .args .h)) (start .args .net .now))) 3 0) →
+      n ≡ writeRefusal (start .args .net .now) (start .args .w) (start .args .h) short
+  past e = cond-false _ 1 _ (size at) (cond-false _ 2 _ long e)
+
+-- the part that was looked through is the net's own
+module _ (c : tie.After-any-beyond) where
+  abbrev e : tie.Else2
+  e = c .before .before .before .before
+
+  abbrev n : ℕ
+  n = numbers (start e .args .w) (start e .args .h)
+
+  beyond-told : c .any-beyond .result ≡ anyBeyond (take n (start e .args .net .now))
+  beyond-told =
+      let same : n - 0 ≡ n = omega arith in
+      c .any-beyond .ensures ∙ ap (λ (m : ℕ). anyBeyond (take m (start e .args .net .now))) same
+
+  -- 5 does not refuse
+  roomy : short e ≡ false
+  roomy = sym (or-no (start e .args .short) _ (c .before .before .before .if3 .left) (sym (le-ltb _ _ (c .before .before .if4 .left))))
+
+bad-size-requires : tie.Need-bad-size-requires
+bad-size-requires c κs = search needs
+
+returns : tie.Need-returns
+returns c = cond-true _ 1 _ (sym (c .before .bad-size .ensures) ∙ c .if1 .taken)
+
+short-net-requires : tie.Need-short-net-requires
+short-net-requires c κs = size c
+
+returns-2 : tie.Need-returns-2
+returns-2 c = cond-false _ 1 _ (size (c .before .before)) (cond-true _ 2 _ (sym (c .before .short-net .ensures) ∙ c .if2 .taken))
+
+returns-3 : tie.Need-returns-3
+returns-3 c = past (c .before) (cond-true _ 5 _ (sym (or-yes (c .before .before .before .before .before .args .short) _ (c .if3 .taken))))
+
+mul-n : tie.Need-mul-n
+mul-n c = omega (arith, few (c .before .before .before))
+
+mul-n-2 : tie.Need-mul-n-2
+mul-n-2 c = omega (arith, few (c .before .before .before))
+
+add-if4 : tie.Need-add-if4
+add-if4 c = omega (arith, few (c .before .before .before))
+
+mul-if4 : tie.Need-mul-if4
+mul-if4 c = omega (arith, few (c .before .before .before))
+
+returns-4 : tie.Need-returns-4
+returns-4 c =
+    past (c .before .before)
+    (cond-true _ 5 _ (sym (or-no (c .before .before .before .before .before .before .args .short) _ (c .before .if3 .left) (sym (lt-ltb _ _ (c .if4 .taken))))))
+
+sub-any-beyond : tie.Need-sub-any-beyond
+sub-any-beyond c = search needs
+
+part-any-beyond-start : tie.Need-part-any-beyond-start
+part-any-beyond-start c = search needs
+
+part-any-beyond-end : tie.Need-part-any-beyond-end
+part-any-beyond-end c =
+    let l = ltb-false (length (c .before .before .before .before .before .before .args .net .now)) _ (long (c .before .before)) in
+    search needs
+
+any-beyond-requires : tie.Need-any-beyond-requires
+any-beyond-requires c κs = search needs
+
+returns-5 : tie.Need-returns-5
+returns-5 c =
+    past (e (c .before)) (cond-false _ 5 _ (roomy (c .before)) (cond-true _ 3 0 (sym (beyond-told (c .before)) ∙ c .if5 .taken)))
+
+returns-6 : tie.Need-returns-6
+returns-6 c =
+    past (e (c .before)) (cond-false _ 5 _ (roomy (c .before)) (cond-false _ 3 0 (sym (beyond-told (c .before)) ∙ c .if5 .left) refl))
+
+pub write-refusal-spec : {M : Type 1} → statement M
+write-refusal-spec =
+    tie.close
+    (tie.spec
+    bad-size-requires
+    returns
+    short-net-requires
+    returns-2
+    returns-3
+    mul-n
+    mul-n-2
+    add-if4
+    mul-if4
+    returns-4
+    sub-any-beyond
+    part-any-beyond-start
+    part-any-beyond-end
+    any-beyond-requires
+    returns-5
+    returns-6)

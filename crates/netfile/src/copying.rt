@@ -1,0 +1,45 @@
+// Writing and reading in one go: the round trip, held to by the code itself.
+use crate::answers::ReadAnswer;
+use crate::answers::WriteAnswer;
+use crate::reading::read;
+use crate::writing::write_with;
+use net::bad_size;
+ghost use mathlib.Core.Path.{_≡_};
+ghost use mathlib.Core.List.{[], _∷_};
+ghost use mathlib.Core.Bool.{false, cond};
+ghost use lib.Dec.{ltb};
+ghost use lib.ListN.{length, take};
+ghost use Rattle.net.specs.Net.{numbers};
+ghost use Rattle.net.specs.TurnedAway.{badSize, outputAfter};
+ghost use Rattle.netfile.specs.NetFile.{netFile};
+ghost use Rattle.netfile.specs.Answers.{readTold, answer, copyRefusal};
+
+// Whether a net of this size does not fit `room` numbers; a bad size is refused before that counts.
+fn no_room(w: usize, h: usize, room: usize) -> bool
+    ensures { λ r. ⌜ r ≡ cond (badSize w h) false (ltb room (numbers w h)) ⌝ }
+{
+    if bad_size(w, h) {
+        return false;
+    }
+    room < 9 * (w * h)
+}
+
+// The net's file over the front of `out`, and the net that is read from these bytes over the front of `back`: the net's first 9wh numbers.
+pub fn copy_through_file(
+    net: &[i32],
+    w: usize,
+    h: usize,
+    out: &mut [u8],
+    back: &mut [i32],
+) -> ReadAnswer
+    ensures { λ r. ⌜ readTold r ≡ answer (copyRefusal (now (net .entry)) w h (length (now (out .entry))) (length (now (back .entry)))) (w ∷ h ∷ []) ⌝ }
+    ensures { λ r. ⌜ now (out .exit) ≡ outputAfter (copyRefusal (now (net .entry)) w h (length (now (out .entry))) (length (now (back .entry)))) (netFile (now (net .entry)) w h) (now (out .entry)) ⌝ }
+    ensures { λ r. ⌜ now (back .exit) ≡ outputAfter (copyRefusal (now (net .entry)) w h (length (now (out .entry))) (length (now (back .entry)))) (take (numbers w h) (now (net .entry))) (now (back .entry)) ⌝ }
+{
+    let short = no_room(w, h, back.len());
+    let written = write_with(net, w, h, short, out);
+    match written {
+        WriteAnswer::Written(n) => read(&out[0..n], back),
+        WriteAnswer::Refused(n) => ReadAnswer::Refused(n),
+    }
+}

@@ -1,0 +1,197 @@
+// The reader: the whole file is looked through before the first number is stored.
+use crate::answers::ReadAnswer;
+use crate::words::Parsed;
+use crate::words::first_number;
+use crate::words::parse_word;
+use crate::words::signed_number;
+use net::bad_side;
+use net::number_beyond;
+use net::store_point;
+ghost use mathlib.Core.Path.{_≡_};
+ghost use mathlib.Core.Bool.{false, _||_};
+ghost use mathlib.Core.List.{[], _∷_};
+ghost use Prim.Native.Nat.{_+_, _*_, _≤_};
+ghost use lib.Dec.{ltb};
+ghost use lib.ListN.{length};
+ghost use Rattle.exact.specs.Filling.{over, runs};
+ghost use Rattle.net.specs.Net.{numbers};
+ghost use Rattle.net.specs.TurnedAway.{badSize, firstFault};
+ghost use Rattle.netfile.specs.NetFile.{payloadOf, firstWord, firstPoint, fromPoint};
+ghost use Rattle.netfile.specs.TurnedAway.{sideFaults, numberFaults, pointFaults, endFaults, bodyFaults, shortFor};
+ghost use Rattle.netfile.specs.Answers.{wordTold, readTold, answer, headAnswer, readAnswer, readNet};
+
+// A side's word: its payload, or 7, 8 or 1.
+fn parse_side(left: &[u8], kind: u32) -> Parsed
+    ensures { λ r. ⌜ wordTold r ≡ answer (firstFault (sideFaults (now (left .entry)) kind)) (payloadOf (firstWord (now (left .entry))) ∷ []) ⌝ }
+{
+    let parsed = parse_word(left, kind);
+    match parsed {
+        Parsed::Payload(p) => {
+            if bad_side(p as usize) {
+                return Parsed::Refused(1);
+            }
+            parsed
+        }
+        Parsed::Refused(n) => Parsed::Refused(n),
+    }
+}
+
+// The two sides where the lent net has room for their numbers, or 5. For sides that passed their test.
+fn sized(w: usize, h: usize, short: bool, room: usize) -> ReadAnswer
+    requires { ⌜ badSize w h ≡ false ⌝ }
+    ensures { λ r. ⌜ readTold r ≡ answer (firstFault ((short || ltb room (numbers w h), 5) ∷ [])) (w ∷ h ∷ []) ⌝ }
+{
+    if short {
+        return ReadAnswer::Refused(5);
+    }
+    if room < 9 * (w * h) {
+        return ReadAnswer::Refused(5);
+    }
+    ReadAnswer::Size(w, h)
+}
+
+// The two sides, or the first fault up to 5.
+fn parse_head(file: &[u8], short: bool, room: usize) -> ReadAnswer
+    ensures { λ r. ⌜ readTold r ≡ headAnswer (now (file .entry)) (short || shortFor (now (file .entry)) room) ⌝ }
+{
+    let width = parse_side(file, 1);
+    match width {
+        Parsed::Payload(w) => {
+            let height = parse_side(&file[4..], 2);
+            match height {
+                Parsed::Payload(h) => sized(w as usize, h as usize, short, room),
+                Parsed::Refused(n) => ReadAnswer::Refused(n),
+            }
+        }
+        Parsed::Refused(n) => ReadAnswer::Refused(n),
+    }
+}
+
+// 7, 8 or 3 of a number's word, or 0.
+fn number_refusal(left: &[u8], kind: u32) -> u32
+    ensures { λ r. ⌜ r ≡ firstFault (numberFaults (now (left .entry)) kind) ⌝ }
+{
+    let parsed = parse_word(left, kind);
+    match parsed {
+        Parsed::Payload(p) => {
+            if number_beyond(signed_number(p)) {
+                return 3;
+            }
+            0
+        }
+        Parsed::Refused(n) => n,
+    }
+}
+
+// The same of the three words of a control point.
+fn point_refusal(left: &[u8]) -> u32
+    ensures { λ r. ⌜ r ≡ firstFault (pointFaults (now (left .entry))) ⌝ }
+{
+    let x = number_refusal(left, 3);
+    if x != 0 {
+        return x;
+    }
+    let y = number_refusal(&left[4..], 4);
+    if y != 0 {
+        return y;
+    }
+    number_refusal(&left[8..], 5)
+}
+
+// The same of the words of n control points, which begin after two words.
+fn points_refusal(file: &[u8], n: usize) -> u32
+    requires { ⌜ 8 ≤ length (now file) ⌝ }
+    ensures { λ r. ⌜ r ≡ firstFault (runs n (λ i. pointFaults (fromPoint (now (file .entry)) i))) ⌝ }
+{
+    let mut i = 0;
+    while i < n {
+        let refusal = point_refusal(&file[8 + 12 * i..]);
+        if refusal != 0 {
+            return refusal;
+        }
+        i += 1;
+    }
+    0
+}
+
+// 7, 8 or 9 of the end word, or 0.
+fn end_refusal(left: &[u8]) -> u32
+    ensures { λ r. ⌜ r ≡ firstFault (endFaults (now (left .entry))) ⌝ }
+{
+    let parsed = parse_word(left, 6);
+    match parsed {
+        Parsed::Payload(p) => {
+            if p != 0 {
+                return 8;
+            }
+            if 4 < left.len() {
+                return 9;
+            }
+            0
+        }
+        Parsed::Refused(n) => n,
+    }
+}
+
+// The first fault after the two sides, or 0.
+fn body_refusal(file: &[u8], n: usize) -> u32
+    requires { ⌜ 8 ≤ length (now file) ⌝ }
+    ensures { λ r. ⌜ r ≡ firstFault (bodyFaults (now (file .entry)) n) ⌝ }
+{
+    let refusal = points_refusal(file, n);
+    if refusal != 0 {
+        return refusal;
+    }
+    end_refusal(&file[8 + 12 * n..])
+}
+
+// The control point in the first three words.
+fn first_point(bytes: &[u8]) -> [i32; 3]
+    requires { ⌜ 12 ≤ length (now bytes) ⌝ }
+    ensures { λ r. ⌜ r ≡ firstPoint (now (bytes .entry)) ⌝ }
+{
+    let x = first_number(bytes);
+    let y = first_number(&bytes[4..]);
+    let z = first_number(&bytes[8..]);
+    [x, y, z]
+}
+
+// The numbers of n control points over the front of the lent net.
+fn load_points(file: &[u8], n: usize, net: &mut [i32])
+    requires { ⌜ (8 + 12 * n ≤ length (now file)) × (3 * n ≤ length (now net)) ⌝ }
+    ensures { λ r. ⌜ now (net .exit) ≡ over (runs n (λ i. firstPoint (fromPoint (now (file .entry)) i))) (now (net .entry)) ⌝ }
+{
+    let mut i = 0;
+    while i < n {
+        store_point(first_point(&file[8 + 12 * i..]), 3 * i, net);
+        i += 1;
+    }
+}
+
+// The same as `read`, for the crates above: `short` is whether another output that they were lent is too short, which is 5 too.
+pub fn read_with(file: &[u8], short: bool, net: &mut [i32]) -> ReadAnswer
+    ensures { λ r. ⌜ readTold r ≡ readAnswer (now (file .entry)) (short || shortFor (now (file .entry)) (length (now (net .entry)))) ⌝ }
+    ensures { λ r. ⌜ now (net .exit) ≡ readNet (now (file .entry)) (short || shortFor (now (file .entry)) (length (now (net .entry)))) (now (net .entry)) ⌝ }
+{
+    let head = parse_head(file, short, net.len());
+    match head {
+        ReadAnswer::Size(w, h) => {
+            let n = 3 * (w * h);
+            let refusal = body_refusal(file, n);
+            if refusal != 0 {
+                return ReadAnswer::Refused(refusal);
+            }
+            load_points(file, n, net);
+            ReadAnswer::Size(w, h)
+        }
+        ReadAnswer::Refused(n) => ReadAnswer::Refused(n),
+    }
+}
+
+// The net of a file over the front of `net`, or the first fault in the order of the bytes.
+pub fn read(file: &[u8], net: &mut [i32]) -> ReadAnswer
+    ensures { λ r. ⌜ readTold r ≡ readAnswer (now (file .entry)) (shortFor (now (file .entry)) (length (now (net .entry)))) ⌝ }
+    ensures { λ r. ⌜ now (net .exit) ≡ readNet (now (file .entry)) (shortFor (now (file .entry)) (length (now (net .entry)))) (now (net .entry)) ⌝ }
+{
+    read_with(file, false, net)
+}
