@@ -7,7 +7,7 @@ use native.Mathlib.Decide.{decLt}
 use native.Mathlib.Omega.{arith}
 use lib.Arith.{digits-div, digits-mod}
 use lib.Dec.{T, ltb}
-use lib.Signed.{_≤ℤ_, _<ℤ_, nonNeg}
+use lib.Signed.{nonNeg}
 use lib.IntN.{ℤ, pos, negsuc, natAbs, _+ℤ_, _-ℤ_}
 use lib.ListN.{length, getD, take}
 use mir.Syntax.{w32}
@@ -18,6 +18,7 @@ use Rattle.exact.proofs.Parts.{integers, sum-parts, difference-parts}
 use Rattle.exact.proofs.FillingLaws.{runs-of-list}
 use Rattle.net.proofs.Faults.{cond-true, cond-false}
 use Rattle.netfile.specs.NetFile.{word, kindOf, payloadOf, complement, signed, wordBytes, firstWord}
+use Rattle.netfile.specs.LowFirst.{turned, lowFirst, lowBytes}
 use Rattle.netfile.specs.Promises.{AllBytes}
 
 -- ---- kind and payload
@@ -50,26 +51,70 @@ first-of-bytes v after h =
     let high : v / 16777216 % 256 ≡ v / 16777216 = mod-eq-of-lt top in
     omega (arith, quotients v, high)
 
+-- the bytes of a word that is put together of four
+module _ (a b c d : ℕ) (ha : a < 256) (hb : b < 256) (hc : c < 256) (hd : d < 256) where
+  abbrev joined : ℕ
+  joined = a * 16777216 + b * 65536 + c * 256 + d
+
+  byte-a : joined / 16777216 ≡ a
+  byte-a = omega (arith, ha, hb, hc, hd)
+
+  byte-b : joined / 65536 % 256 ≡ b
+  byte-b = omega (arith, ha, hb, hc, hd)
+
+  byte-c : joined / 256 % 256 ≡ c
+  byte-c = omega (arith, ha, hb, hc, hd)
+
+  byte-d : joined % 256 ≡ d
+  byte-d = omega (arith, ha, hb, hc, hd)
+
 -- four bytes are those of their word
 pub bytes-of-first : (bytes : List ℕ) → 4 ≤ length bytes → AllBytes bytes → wordBytes (firstWord bytes) ≡ take 4 bytes
 unfolding wordBytes firstWord runs
 bytes-of-first bytes long small =
+    let a = getD bytes 0 0 in
+    let b = getD bytes 1 0 in
+    let c = getD bytes 2 0 in
+    let d = getD bytes 3 0 in
+    let first = ap (λ (n : ℕ). n % 256) (byte-a a b c d (small 0) (small 1) (small 2) (small 3)) ∙ mod-eq-of-lt (small 0) in
+    let second = byte-b a b c d (small 0) (small 1) (small 2) (small 3) in
+    let third = byte-c a b c d (small 0) (small 1) (small 2) (small 3) in
+    let fourth = byte-d a b c d (small 0) (small 1) (small 2) (small 3) in
     (λ t. first t ∷ second t ∷ third t ∷ fourth t ∷ []) ∙ runs-of-list 0 bytes 4 long
-  where
-    v : ℕ
-    v = getD bytes 0 0 * 16777216 + getD bytes 1 0 * 65536 + getD bytes 2 0 * 256 + getD bytes 3 0
 
-    first : v / 16777216 % 256 ≡ getD bytes 0 0
-    first = omega (arith, small 0, small 1, small 2, small 3)
+-- ---- bytes the other way round
 
-    second : v / 65536 % 256 ≡ getD bytes 1 0
-    second = omega (arith, small 0, small 1, small 2, small 3)
+pub turned-first : (bytes : List ℕ) → AllBytes bytes → turned (lowFirst bytes) ≡ firstWord bytes
+unfolding turned lowFirst firstWord
+turned-first bytes small =
+    let a = getD bytes 0 0 in
+    let b = getD bytes 1 0 in
+    let c = getD bytes 2 0 in
+    let d = getD bytes 3 0 in
+    let order : a + b * 256 + c * 65536 + d * 16777216 ≡ d * 16777216 + c * 65536 + b * 256 + a = omega arith in
+    let first = byte-d d c b a (small 3) (small 2) (small 1) (small 0) in
+    let second = byte-c d c b a (small 3) (small 2) (small 1) (small 0) in
+    let third = byte-b d c b a (small 3) (small 2) (small 1) (small 0) in
+    let fourth = byte-a d c b a (small 3) (small 2) (small 1) (small 0) in
+    ap (λ (v : ℕ). v % 256 * 16777216 + v / 256 % 256 * 65536 + v / 65536 % 256 * 256 + v / 16777216) order
+    ∙ (λ t. first t * 16777216 + second t * 65536 + third t * 256 + fourth t)
 
-    third : v / 256 % 256 ≡ getD bytes 2 0
-    third = omega (arith, small 0, small 1, small 2, small 3)
-
-    fourth : v % 256 ≡ getD bytes 3 0
-    fourth = omega (arith, small 0, small 1, small 2, small 3)
+pub low-turned : (v : ℕ) → v < 4294967296 → lowBytes (turned v) ≡ wordBytes v
+unfolding turned lowBytes wordBytes
+low-turned v h =
+    let a = v % 256 in
+    let b = v / 256 % 256 in
+    let c = v / 65536 % 256 in
+    let d = v / 16777216 in
+    let ha : a < 256 = omega arith in
+    let hb : b < 256 = omega arith in
+    let hc : c < 256 = omega arith in
+    let hd : d < 256 = omega arith in
+    let first = byte-d a b c d ha hb hc hd ∙ sym (mod-eq-of-lt hd) in
+    let second = byte-c a b c d ha hb hc hd in
+    let third = byte-b a b c d ha hb hc hd in
+    let fourth = byte-a a b c d ha hb hc hd in
+    λ t. first t ∷ second t ∷ third t ∷ fourth t ∷ []
 
 -- ---- two's complement
 
@@ -99,14 +144,36 @@ complement-signed p h = go (decLt p 134217728)
     go (yes l) = sym (ap complement (signed-low p l))
     go (no l) = sym (ap complement (signed-high p (omega arith))) ∙ ap complement (below-zero p h) ∙ omega arith
 
--- the payload of a number below zero is the number raised by 2^28, and of another number it is the number
-pub raised : (z : ℤ) → z <ℤ pos 0 → natAbs z ≤ 16777216 → z +ℤ pos 268435456 ≡ pos (complement z)
-raised (pos n) h k = absurd (omega (integers, h))
-raised (negsuc n) h k = omega (integers, sum-parts (negsuc n) (pos 268435456))
+-- the code's way: half of 2^28 is added, modulo 2^28, and taken off again
+pub signed-round : (p : ℕ) → p < 268435456 → pos ((p + 134217728) % 268435456) -ℤ pos 134217728 ≡ signed p
+signed-round p h = go (decLt p 134217728)
+  where
+    go : Dec (p < 134217728) → pos ((p + 134217728) % 268435456) -ℤ pos 134217728 ≡ signed p
+    go (yes l) =
+        let m : (p + 134217728) % 268435456 ≡ p + 134217728 = mod-eq-of-lt (omega arith) in
+        ap (λ (k : ℕ). pos k -ℤ pos 134217728) m ∙ omega (integers, difference-parts (pos (p + 134217728)) (pos 134217728)) ∙ signed-low p l
+    go (no l) =
+        let m : (p + 134217728) % 268435456 ≡ p - 134217728 = omega arith in
+        ap (λ (k : ℕ). pos k -ℤ pos 134217728) m
+        ∙ omega (integers, difference-parts (pos (p - 134217728)) (pos 134217728), difference-parts (pos p) (pos 268435456))
+        ∙ signed-high p (omega arith)
 
-pub kept : (z : ℤ) → pos 0 ≤ℤ z → z ≡ pos (complement z)
-kept (pos n) h = refl
-kept (negsuc n) h = absurd (h .le)
+-- and 2^28 is added before the remainder
+abbrev pub raised : ℤ → ℕ
+raised (pos n) = n + 268435456
+raised (negsuc n) = 268435456 - suc n
+
+pub raised-is : (z : ℤ) → natAbs z ≤ 16777216 → z +ℤ pos 268435456 ≡ pos (raised z)
+raised-is (pos n) h = refl
+raised-is (negsuc n) h = omega (integers, sum-parts (negsuc n) (pos 268435456))
+
+pub raised-small : (z : ℤ) → natAbs z ≤ 16777216 → raised z < 4294967296
+raised-small (pos n) h = omega arith
+raised-small (negsuc n) h = omega arith
+
+pub raised-complement : (z : ℤ) → natAbs z ≤ 16777216 → raised z % 268435456 ≡ complement z
+raised-complement (pos n) h = omega arith
+raised-complement (negsuc n) h = mod-eq-of-lt (omega arith)
 
 -- what is cast to an unsigned number
 pub natural : {x : ℤ} {m : ℕ} → x ≡ pos m → m < 4294967296 → T (nonNeg x) × Fits w32 (natAbs x)

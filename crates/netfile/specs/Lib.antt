@@ -3,3 +3,4 @@ pub mod NetFile
 pub mod TurnedAway
 pub mod Answers
 pub mod Promises
+pub mod LowFirst

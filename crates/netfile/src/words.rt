@@ -7,6 +7,7 @@ ghost use lib.ListN.{length};
 ghost use lib.Seq.{sets};
 ghost use Rattle.net.specs.TurnedAway.{firstFault};
 ghost use Rattle.netfile.specs.NetFile.{word, payloadOf, complement, signed, wordBytes, numberBytes, firstWord, firstNumber};
+ghost use Rattle.netfile.specs.LowFirst.{turned, lowFirst, lowBytes};
 ghost use Rattle.netfile.specs.TurnedAway.{wordFaults};
 ghost use Rattle.netfile.specs.Answers.{wordTold, answer};
 
@@ -16,16 +17,31 @@ pub enum Parsed {
     Refused(u32),
 }
 
-// The word in the first four bytes.
-fn first_word(bytes: &[u8]) -> u32
+// The word with its bytes in the other order.
+fn turn(v: u32) -> u32
+    ensures { λ r. ⌜ r ≡ turned v ⌝ }
+{
+    v % 256 * 16777216 + v / 256 % 256 * 65536 + v / 65536 % 256 * 256 + v / 16777216
+}
+
+// The word in the first four bytes, first byte lowest: one load.
+fn load_low_first(bytes: &[u8]) -> u32
     requires { ⌜ 4 ≤ length (now bytes) ⌝ }
-    ensures { λ r. ⌜ r ≡ firstWord (now (bytes .entry)) ⌝ }
+    ensures { λ r. ⌜ r ≡ lowFirst (now (bytes .entry)) ⌝ }
 {
     let a = bytes[0] as u32;
     let b = bytes[1] as u32;
     let c = bytes[2] as u32;
     let d = bytes[3] as u32;
-    a * 16777216 + b * 65536 + c * 256 + d
+    a + b * 256 + c * 65536 + d * 16777216
+}
+
+// The word in the first four bytes.
+fn first_word(bytes: &[u8]) -> u32
+    requires { ⌜ 4 ≤ length (now bytes) ⌝ }
+    ensures { λ r. ⌜ r ≡ firstWord (now (bytes .entry)) ⌝ }
+{
+    turn(load_low_first(bytes))
 }
 
 // The word that is due, by its kind.
@@ -43,16 +59,13 @@ pub fn parse_word(left: &[u8], kind: u32) -> Parsed
     }
 }
 
-// The number of a payload.
+// The number of a payload. What is at least half of 2^28 comes round to below half of it, and then below zero.
 pub fn signed_number(p: u32) -> i32
     requires { ⌜ p < 268435456 ⌝ }
     ensures { λ r. ⌜ r ≡ signed p ⌝ }
 {
-    if p < 134217728 {
-        p as i32
-    } else {
-        p as i32 - 268435456
-    }
+    let raised = (p + 134217728) % 268435456;
+    raised as i32 - 134217728
 }
 
 // The number in the first word.
@@ -68,11 +81,19 @@ fn complement_of(z: i32) -> u32
     requires { ⌜ natAbs z ≤ 16777216 ⌝ }
     ensures { λ r. ⌜ r ≡ complement z ⌝ }
 {
-    if z < 0 {
-        (z + 268435456) as u32
-    } else {
-        z as u32
-    }
+    let raised = (z + 268435456) as u32;
+    raised % 268435456
+}
+
+// The bytes of a word, first byte lowest, stored from a place on: one store.
+fn store_low_first(v: u32, at: usize, out: &mut [u8])
+    requires { ⌜ at + 4 ≤ length (now out) ⌝ }
+    ensures { λ r. ⌜ now (out .exit) ≡ sets (now (out .entry)) at (lowBytes v) ⌝ }
+{
+    out[at] = (v % 256) as u8;
+    out[at + 1] = (v / 256 % 256) as u8;
+    out[at + 2] = (v / 65536 % 256) as u8;
+    out[at + 3] = (v / 16777216) as u8;
 }
 
 // The bytes of a word, stored from a place on.
@@ -81,10 +102,7 @@ pub fn store_word(kind: u32, payload: u32, at: usize, out: &mut [u8])
     ensures { λ r. ⌜ now (out .exit) ≡ sets (now (out .entry)) at (wordBytes (word kind payload)) ⌝ }
 {
     let v = kind * 268435456 + payload;
-    out[at] = (v / 16777216 % 256) as u8;
-    out[at + 1] = (v / 65536 % 256) as u8;
-    out[at + 2] = (v / 256 % 256) as u8;
-    out[at + 3] = (v % 256) as u8;
+    store_low_first(turn(v), at, out);
 }
 
 // The bytes of a number's word, stored from a place on.
