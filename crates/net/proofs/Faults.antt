@@ -2,13 +2,14 @@
 use mathlib.Core.Path.{_≡_, refl, sym, ap, subst, _∙_}
 use mathlib.Core.Bool.{Bool, true, false, _||_, cond}
 use mathlib.Core.List.{List, [], _∷_, _++_}
-use Prim.Native.Nat.{ℕ, zero, suc, _<_}
+use Prim.Native.Nat.{ℕ, zero, suc, _+_, _≤_, _<_}
 use native.Mathlib.Omega.{arith}
 use native.Mathlib.Decide.{decLt}
 use lib.Dec.{T}
 use lib.ListN.{length}
 use borrow.Author.Tests.{eq-eqb, ne-eqb}
 use Rattle.exact.specs.Filling.{runs}
+use Rattle.exact.proofs.FillingLaws.{runs-suc}
 use Rattle.net.specs.TurnedAway.{Fault, firstFault, accepted}
 
 -- `a || b` from a alone, and from b where a fails
@@ -113,17 +114,25 @@ clear-run (suc n) f k i h =
     go before last (yes l) = before l
     go before last (no l) = subst (λ (j : ℕ). Clear (f j)) (omega arith) last
 
--- the first run with a fault tells
-pub fault-in-runs : (n : ℕ) (f : ℕ → List Fault) (i : ℕ) {r : ℕ} → i < n → Clear (runs i f) → r ≡ firstFault (f i) → (r ≡ 0 → ⊥) → r ≡ firstFault (runs n f)
+-- a fault of the first runs tells, and so the first run with a fault
+pub fault-in-front : (m n : ℕ) (f : ℕ → List Fault) {r : ℕ} → m ≤ n → r ≡ firstFault (runs m f) → (r ≡ 0 → ⊥) → r ≡ firstFault (runs n f)
 unfolding runs
-fault-in-runs zero f i h k e there = absurd (omega arith)
-fault-in-runs (suc n) f i {r} h k e there = go (λ l. fault-in-runs n f i l k e there) (decLt i n)
+fault-in-front m zero f h e there =
+    let none : m ≡ 0 = omega arith in
+    e ∙ ap (λ (k : ℕ). firstFault (runs k f)) none
+fault-in-front m (suc n) f {r} h e there = go (λ l. fault-in-front m n f l e there) (decLt n m)
   where
-    go : (i < n → r ≡ firstFault (runs n f)) → Dec (i < n) → r ≡ firstFault (runs n f ++ f n)
-    go before (yes l) = before l ∙ fault-before (runs n f) (f n) (λ z. there (before l ∙ z))
+    go : (m ≤ n → r ≡ firstFault (runs n f)) → Dec (n < m) → r ≡ firstFault (runs (suc n) f)
+    go before (yes l) =
+        let all : m ≡ suc n = omega arith in
+        e ∙ ap (λ (k : ℕ). firstFault (runs k f)) all
     go before (no l) =
-        let last : i ≡ n = omega arith in
-        e ∙ ap (λ (j : ℕ). firstFault (f j)) last ∙ fault-after (runs n f) (f n) (subst (λ (j : ℕ). Clear (runs j f)) last k)
+        let b = before (omega arith) in
+        b ∙ fault-before (runs n f) (f n) (λ z. there (b ∙ z))
+
+pub fault-in-runs : (n : ℕ) (f : ℕ → List Fault) (i : ℕ) {r : ℕ} → i < n → Clear (runs i f) → r ≡ firstFault (f i) → (r ≡ 0 → ⊥) → r ≡ firstFault (runs n f)
+fault-in-runs n f i h k e there =
+    fault-in-front (i + 1) n f (omega arith) (e ∙ fault-after (runs i f) (f i) k ∙ ap firstFault (sym (runs-suc i f))) there
 
 pub numbered-runs : (n : ℕ) (f : ℕ → List Fault) → ((i : ℕ) → Numbered (f i)) → Numbered (runs n f)
 unfolding runs

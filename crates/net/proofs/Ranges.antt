@@ -1,20 +1,20 @@
 -- The net range: the code's two comparisons are the definition's one of the size, and what a list in range gives.
-use mathlib.Core.Path.{_≡_, refl, sym, ap}
-use mathlib.Core.Bool.{true, false, _||_}
+use mathlib.Core.Path.{_≡_, refl, sym, ap, _∙_}
+use mathlib.Core.Bool.{Bool, true, false, _||_}
 use mathlib.Core.List.{List, [], _∷_, _++_}
-use Prim.Native.Nat.{ℕ, zero, suc, _+_, _≤_, _<_, suc-le-suc}
+use Prim.Native.Nat.{ℕ, zero, suc, _+_, _-_, _≤_, _<_, suc-le-suc}
 use native.Mathlib.Nat.{le-of-suc-le-suc, not-suc-le-zero}
 use native.Mathlib.Numerals.{unary-clauses}
 use native.Mathlib.Omega.{arith}
 use lib.Dec.{ltb→lt, leb→le}
 use lib.IntN.{ℤ, pos, negsuc, natAbs}
-use lib.ListN.{length, getD, drop}
-use lib.Seq.{drop-cons}
+use lib.ListN.{length, getD, take, drop}
+use lib.Seq.{drop-cons, take-add}
 use lib.Signed.{_≤ℤ_, _<ℤ_, ltZ}
 use borrow.Author.Tests.{lt-ltb, le-ltb, ltb-false}
 use Rattle.exact.specs.Filling.{runs}
 use Rattle.net.specs.TurnedAway.{beyond, anyBeyond}
-use Rattle.net.proofs.Faults.{or-none, or-no}
+use Rattle.net.proofs.Faults.{or-none, or-no, or-yes}
 
 pub beyond-below : (z : ℤ) → z <ℤ negsuc 16777215 → true ≡ beyond z
 beyond-below (pos n) h = absurd (h .lt)
@@ -34,14 +34,26 @@ in-range [] e i h = absurd (not-suc-le-zero h)
 in-range (z ∷ zs) e zero h = ltb-false _ _ (or-none (beyond z) (anyBeyond zs) e .0)
 in-range (z ∷ zs) e (suc i) h = in-range zs (or-none (beyond z) (anyBeyond zs) e .1) i (le-of-suc-le-suc h)
 
--- lists in range that follow one another
-pub any-append : (l m : List ℤ) → anyBeyond l ≡ false → anyBeyond m ≡ false → anyBeyond (l ++ m) ≡ false
-any-append [] m e f = f
-any-append (z ∷ zs) m e f =
-    let q = or-none (beyond z) (anyBeyond zs) e in
-    sym (or-no (beyond z) (anyBeyond (zs ++ m)) (q .0) (sym (any-append zs m (q .1) f)))
+-- lists that follow one another
+pub any-append : (l m : List ℤ) → anyBeyond (l ++ m) ≡ (anyBeyond l || anyBeyond m)
+any-append [] m = refl
+any-append (z ∷ zs) m = ap (λ (t : Bool). beyond z || t) (any-append zs m) ∙ sym (joined (beyond z))
+  where
+    joined : (t : Bool) → ((t || anyBeyond zs) || anyBeyond m) ≡ (t || (anyBeyond zs || anyBeyond m))
+    joined true = refl
+    joined false = refl
 
 pub any-runs : (n : ℕ) (f : ℕ → List ℤ) → ((i : ℕ) → i < n → anyBeyond (f i) ≡ false) → anyBeyond (runs n f) ≡ false
 unfolding runs
 any-runs zero f h = refl
-any-runs (suc n) f h = any-append (runs n f) (f n) (any-runs n f (λ i k. h i (omega arith))) (h n (omega arith))
+any-runs (suc n) f h =
+    any-append (runs n f) (f n) ∙ sym (or-no (anyBeyond (runs n f)) (anyBeyond (f n)) (any-runs n f (λ i k. h i (omega arith))) (sym (h n (omega arith))))
+
+-- the first numbers of a list: those of a shorter front, and those after it
+pub any-front : (l : List ℤ) (a b : ℕ) → anyBeyond (take (a + b) l) ≡ (anyBeyond (take a l) || anyBeyond (take b (drop a l)))
+any-front l a b = ap anyBeyond (take-add a b l) ∙ any-append (take a l) (take b (drop a l))
+
+pub any-longer : (l : List ℤ) (a b : ℕ) → a ≤ b → anyBeyond (take a l) ≡ true → true ≡ anyBeyond (take b l)
+any-longer l a b h e =
+    let rest : a + (b - a) ≡ b = omega arith in
+    or-yes (anyBeyond (take a l)) (anyBeyond (take (b - a) (drop a l))) e ∙ sym (any-front l a (b - a)) ∙ ap (λ (k : ℕ). anyBeyond (take k l)) rest

@@ -13,6 +13,7 @@ pub use sizes::bad_size;
 pub use sizes::short_net;
 pub use storage::any_beyond;
 pub use storage::load;
+pub use storage::net_beyond;
 pub use storage::number_beyond;
 pub use storage::store_point;
 pub use storage::vertex_beyond;

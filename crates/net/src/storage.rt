@@ -1,7 +1,7 @@
 // Control points and control triangles in lent memory: loading and storing them by value, and the test of their range.
 ghost use mathlib.Core.Path.{_≡_};
 ghost use Prim.Native.Nat.{_+_, _≤_, _<_, _*_};
-ghost use lib.ListN.{length};
+ghost use lib.ListN.{length, take};
 ghost use lib.Seq.{sets};
 ghost use Rattle.net.specs.Net.{controlPoint, controlTriangle, vertexAt, start, vertexNumbers};
 ghost use Rattle.net.specs.TurnedAway.{beyond, anyBeyond};
@@ -57,6 +57,23 @@ pub fn any_beyond(numbers: &[i32]) -> bool
     while i < numbers.len() {
         let z = numbers[i];
         if number_beyond(z) {
+            return true;
+        }
+        i += 1;
+    }
+    false
+}
+
+// Whether one of the numbers of the first n vertices is. For the crates above, which have refused every net that is too short. A part of nine at a
+// time: its length is known, so the loop over it is written out.
+pub fn net_beyond(net: &[i32], n: usize) -> bool
+    requires { ⌜ 9 * n ≤ length (now net) ⌝ }
+    ensures { λ r. ⌜ r ≡ anyBeyond (take (9 * n) (now (net .entry))) ⌝ }
+{
+    let mut i = 0;
+    while i < n {
+        let at = 9 * i;
+        if any_beyond(&net[at..at + 9]) {
             return true;
         }
         i += 1;

@@ -1,15 +1,16 @@
 -- What a parsed word and a refusal number tell of the faults that were looked for, and of those that come after them.
 use mathlib.Core.Path.{_≡_, sym, ap, _∙_}
+use mathlib.Core.Bool.{not}
 use mathlib.Core.List.{List, [], _∷_, _++_}
-use Prim.Native.Nat.{ℕ, _+_, _-_, _*_, _≤_}
+use Prim.Native.Nat.{ℕ, _+_, _-_, _*_, _≤_, _<_}
 use native.Mathlib.Omega.{arith}
-use lib.Dec.{lit<}
-use lib.ListN.{length, getD, take, drop, length-drop}
-use lib.Seq.{take-all}
-use borrow.Author.Tests.{ltb-false}
-use Rattle.net.specs.TurnedAway.{Fault, firstFault}
+use lib.Dec.{eqb, lit≤, lit<}
+use lib.ListN.{length-take, length, getD, take, drop, length-drop}
+use lib.Seq.{take-all, getD-take, getD-drop}
+use borrow.Author.Tests.{ltb-false, le-ltb}
+use Rattle.net.specs.TurnedAway.{Fault, firstFault, beyond}
 use Rattle.net.proofs.Faults.{Clear, Numbered, none-clear, clear-parts, numbered-append, answered, not-accepted, fault-before}
-use Rattle.netfile.specs.NetFile.{xKind, yKind, zKind, fromPoint}
+use Rattle.netfile.specs.NetFile.{kindOf, payloadOf, signed, firstWord, xKind, yKind, zKind, fromPoint}
 use Rattle.netfile.specs.TurnedAway.{wordFaults, sideFaults, numberFaults, pointFaults}
 use Rattle.netfile.specs.Answers.{answer}
 
@@ -68,3 +69,27 @@ next-begins file i k = omega (arith, point-long (fromPoint file i) k, length-dro
 -- the part of a slice from a place on
 pub part-from : (l : List ℕ) (n : ℕ) → take (length l - n) (drop n l) ≡ drop n l
 part-from l n = take-all (length l - n) (drop n l) (omega (arith, length-drop n l))
+
+-- ---- a control point by its twelve bytes alone
+
+-- a word lies in the twelve bytes
+word-within : (left : List ℕ) (n k : ℕ) → k + 4 ≤ n → firstWord (drop k (take n left)) ≡ firstWord (drop k left)
+unfolding firstWord
+word-within left n k h = λ t. byte 0 (lit< tt) t * 16777216 + byte 1 (lit< tt) t * 65536 + byte 2 (lit< tt) t * 256 + byte 3 (lit< tt) t
+  where
+    byte : (i : ℕ) → i < 4 → getD (drop k (take n left)) i 0 ≡ getD (drop k left) i 0
+    byte i l = getD-drop k (take n left) i 0 ∙ getD-take n left (k + i) 0 (omega arith) ∙ sym (getD-drop k left i 0)
+
+-- a number's faults are those of its word
+number-same : (l m : List ℕ) (kind : ℕ) → 4 ≤ length l → 4 ≤ length m → firstWord l ≡ firstWord m → numberFaults l kind ≡ numberFaults m kind
+number-same l m kind h k v =
+    let there = le-ltb (length l) 4 h ∙ sym (le-ltb (length m) 4 k) in
+    λ t. (there t, 7) ∷ (not (eqb (kindOf (v t)) kind), 8) ∷ (beyond (signed (payloadOf (v t))), 3) ∷ []
+
+pub point-within : (left : List ℕ) → 12 ≤ length left → pointFaults (take 12 left) ≡ pointFaults left
+point-within left h =
+    let long = length-take 12 left in
+    let x = number-same (take 12 left) left xKind (omega arith) (omega arith) (word-within left 12 0 (lit≤ tt)) in
+    let y = number-same (drop 4 (take 12 left)) (drop 4 left) yKind (omega (arith, length-drop 4 (take 12 left))) (omega (arith, length-drop 4 left)) (word-within left 12 4 (lit≤ tt)) in
+    let z = number-same (drop 8 (take 12 left)) (drop 8 left) zKind (omega (arith, length-drop 8 (take 12 left))) (omega (arith, length-drop 8 left)) (word-within left 12 8 (lit≤ tt)) in
+    λ t. x t ++ y t ++ z t

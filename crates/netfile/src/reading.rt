@@ -10,7 +10,7 @@ use net::store_point;
 ghost use mathlib.Core.Path.{_≡_};
 ghost use mathlib.Core.Bool.{false, _||_};
 ghost use mathlib.Core.List.{[], _∷_};
-ghost use Prim.Native.Nat.{_+_, _*_, _≤_};
+ghost use Prim.Native.Nat.{_+_, _*_, _≤_, min};
 ghost use lib.Dec.{ltb};
 ghost use lib.ListN.{length};
 ghost use Rattle.exact.specs.Filling.{over, runs};
@@ -98,18 +98,41 @@ fn point_refusal(left: &[u8]) -> u32
     number_refusal(&left[8..], 5)
 }
 
-// The same of the words of n control points, which begin after two words.
-fn points_refusal(file: &[u8], n: usize) -> u32
-    requires { ⌜ 8 ≤ length (now file) ⌝ }
+// The same of n control points whose words are all there. A part of twelve bytes at a time: its length is known, so that no length is tested.
+fn whole_points_refusal(file: &[u8], n: usize) -> u32
+    requires { ⌜ 8 + 12 * n ≤ length (now file) ⌝ }
     ensures { λ r. ⌜ r ≡ firstFault (runs n (λ i. pointFaults (fromPoint (now (file .entry)) i))) ⌝ }
 {
     let mut i = 0;
     while i < n {
-        let refusal = point_refusal(&file[8 + 12 * i..]);
+        let at = 8 + 12 * i;
+        let refusal = point_refusal(&file[at..at + 12]);
         if refusal != 0 {
             return refusal;
         }
         i += 1;
+    }
+    0
+}
+
+fn lesser(a: usize, b: usize) -> usize
+    ensures { λ r. ⌜ r ≡ min a b ⌝ }
+{
+    if a < b { a } else { b }
+}
+
+// The same of n control points: those that are whole, and the one after them where the file ends in it.
+fn points_refusal(file: &[u8], n: usize) -> u32
+    requires { ⌜ 8 ≤ length (now file) ⌝ }
+    ensures { λ r. ⌜ r ≡ firstFault (runs n (λ i. pointFaults (fromPoint (now (file .entry)) i))) ⌝ }
+{
+    let whole = lesser(n, (file.len() - 8) / 12);
+    let refusal = whole_points_refusal(file, whole);
+    if refusal != 0 {
+        return refusal;
+    }
+    if whole < n {
+        return point_refusal(&file[8 + 12 * whole..]);
     }
     0
 }

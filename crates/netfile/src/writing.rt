@@ -2,8 +2,8 @@
 use crate::answers::WriteAnswer;
 use crate::words::store_number;
 use crate::words::store_word;
-use net::any_beyond;
 use net::bad_size;
+use net::net_beyond;
 use net::short_net;
 ghost use mathlib.Core.Path.{_≡_};
 ghost use mathlib.Core.Bool.{false, _||_};
@@ -34,7 +34,7 @@ fn write_refusal(net: &[i32], w: usize, h: usize, short: bool, room: usize) -> u
     if room < 4 * (n + 3) {
         return 5;
     }
-    if any_beyond(&net[0..n]) {
+    if net_beyond(net, w * h) {
         return 3;
     }
     0

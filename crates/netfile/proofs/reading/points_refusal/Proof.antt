@@ -1,105 +1,109 @@
--- `netfile::reading::points_refusal` meets its contract: the control points before i have no fault.
-use mathlib.Core.Path.{_≡_, sym, ap, _∙_, subst}
+-- `netfile::reading::points_refusal` meets its contract: where the file ends in a control point, that one is refused.
+use mathlib.Core.Path.{_≡_, sym, ap, _∙_}
 use mathlib.Core.List.{List}
-use Prim.Native.Nat.{ℕ, _+_, _-_, _*_, _≤_}
+use Prim.Native.Nat.{ℕ, _+_, _-_, _*_, _/_, _<_, min}
 use native.Mathlib.Omega.{arith}
-use lib.ListN.{length}
+use lib.ListN.{length, length-drop}
 use borrow.Author.Needs.{needs}
 use Rattle.exact.specs.Filling.{runs}
-use Rattle.exact.proofs.FillingLaws.{runs-suc}
 use Rattle.net.specs.TurnedAway.{Fault, firstFault}
-use Rattle.net.proofs.Faults.{Clear, clear-none, clear-append, fault-in-runs}
+use Rattle.net.proofs.Faults.{fault-in-front, fault-in-runs}
 use Rattle.netfile.specs.NetFile.{fromPoint}
 use Rattle.netfile.specs.TurnedAway.{pointFaults}
-use Rattle.netfile.proofs.Parsing.{passes, point-numbered, next-begins, part-from}
+use Rattle.netfile.proofs.Parsing.{passes, point-numbered, point-long, part-from}
+use Rattle.netfile.proofs.ReadLaws.{points-numbered}
 use Rattle.netfile.proofs.reading.points_refusal.Statement.{statement}
 use Rattle.netfile.proofs.reading.points_refusal.Tie as tie
 
-abbrev Inv-loop : tie.InvT-loop
-Inv-loop file n i₀ i = (i ≤ n) × (8 + 12 * i ≤ length file) × Clear (runs i (λ j. pointFaults (fromPoint file j)))
-
-abbrev μ-loop : tie.MeasureT-loop
-μ-loop file n i₀ i = n - i
-
--- what was told of the control point at i
-module _ (c : tie.After-point-refusal Inv-loop μ-loop) where
+-- the control points that are whole were looked through
+module _ (c : tie.After-whole-points-refusal) where
   abbrev file : List ℕ
-  file = c .before .before .before .before .before .args .file .now
+  file = c .before .before .before .args .file .now
 
-  abbrev count : ℕ
-  count = c .before .before .before .before .before .args .n
+  abbrev n : ℕ
+  n = c .before .before .before .args .n
 
-  abbrev at : ℕ
-  at = c .before .before .before .loop .i
+  abbrev whole : ℕ
+  whole = c .before .lesser .result
 
   abbrev faults : ℕ → List Fault
-  faults j = pointFaults (fromPoint file j)
+  faults i = pointFaults (fromPoint file i)
 
-  refusal : c .point-refusal .result ≡ firstFault (faults at)
-  refusal = c .point-refusal .ensures ∙ ap (λ (l : List ℕ). firstFault (pointFaults l)) (part-from file (8 + 12 * at))
+  fewer : whole ≡ min n ((length file - 8) / 12)
+  fewer = c .before .lesser .ensures
 
-loop-holds : tie.Need-loop-holds Inv-loop μ-loop
-unfolding runs
-loop-holds c = (omega arith, c .before .pre, tt)
+-- and the one after them, which is cut
+module _ (c : tie.After-point-refusal) where
+  abbrev at : tie.After-whole-points-refusal
+  at = c .before .before .before .before
 
-mul-point-refusal : tie.Need-mul-point-refusal Inv-loop μ-loop
+  told : c .point-refusal .result ≡ firstFault (faults at (whole at))
+  told = c .point-refusal .ensures ∙ ap (λ (l : List ℕ). firstFault (pointFaults l)) (part-from (file at) (8 + 12 * whole at))
+
+  refused : c .point-refusal .result ≡ 0 → ⊥
+  refused z =
+      let k = passes (faults at (whole at)) (point-numbered (fromPoint (file at) (whole at))) told z in
+      let last : whole at < n at = c .before .before .if2 .taken in
+      omega (arith, fewer at, last, point-long (fromPoint (file at) (whole at)) k, length-drop (8 + 12 * whole at) (file at))
+
+sub-lesser : tie.Need-sub-lesser
+sub-lesser c = search needs
+
+lesser-requires : tie.Need-lesser-requires
+lesser-requires c κs = search needs
+
+whole-points-refusal-requires : tie.Need-whole-points-refusal-requires
+whole-points-refusal-requires c κs = search needs
+
+returns : tie.Need-returns
+returns c =
+    let k = c .before in
+    fault-in-front (whole k) (n k) (faults k) (omega (arith, fewer k)) (k .whole-points-refusal .ensures) (c .if1 .taken)
+
+mul-point-refusal : tie.Need-mul-point-refusal
 mul-point-refusal c = search needs
 
-add-point-refusal : tie.Need-add-point-refusal Inv-loop μ-loop
+add-point-refusal : tie.Need-add-point-refusal
 add-point-refusal c = search needs
 
-sub-point-refusal : tie.Need-sub-point-refusal Inv-loop μ-loop
+sub-point-refusal : tie.Need-sub-point-refusal
 sub-point-refusal c = search needs
 
-part-point-refusal-start : tie.Need-part-point-refusal-start Inv-loop μ-loop
+part-point-refusal-start : tie.Need-part-point-refusal-start
 part-point-refusal-start c = search needs
 
-part-point-refusal-end : tie.Need-part-point-refusal-end Inv-loop μ-loop
+part-point-refusal-end : tie.Need-part-point-refusal-end
 part-point-refusal-end c = search needs
 
-point-refusal-requires : tie.Need-point-refusal-requires Inv-loop μ-loop
+point-refusal-requires : tie.Need-point-refusal-requires
 point-refusal-requires c κs = search needs
 
-returns : tie.Need-returns Inv-loop μ-loop
-returns c =
-    let p = c .before in
-    fault-in-runs (count p) (faults p) (at p) (p .before .before .loop-test .taken) (p .before .before .before .loop .inv .2) (refusal p) (c .if1 .taken)
-
-add-i : tie.Need-add-i Inv-loop μ-loop
-add-i c = search needs
-
-loop-less : tie.Need-loop-less Inv-loop μ-loop
-loop-less c = search needs
-
-loop-again : tie.Need-loop-again Inv-loop μ-loop
-loop-again c =
-    let p = c .before in
-    let k = passes (faults p (at p)) (point-numbered (fromPoint (file p) (at p))) (refusal p) (c .if1 .left) in (
-      search needs,
-      next-begins (file p) (at p) k,
-      subst Clear (sym (runs-suc (at p) (faults p))) (clear-append (runs (at p) (faults p)) (faults p (at p)) (p .before .before .before .loop .inv .2) k),
-    )
-
-returns-2 : tie.Need-returns-2 Inv-loop μ-loop
+returns-2 : tie.Need-returns-2
 returns-2 c =
-    let all : c .before .loop .i ≡ c .before .before .before .args .n = omega arith in
-    sym (ap (λ (n : ℕ). firstFault (runs n (λ j. pointFaults (fromPoint (c .before .before .before .args .file .now) j)))) (sym all) ∙ clear-none (runs (c .before .loop .i) (λ j. pointFaults (fromPoint (c .before .before .before .args .file .now) j))) (c .before .loop .inv .2))
+    let k = at c in
+    fault-in-runs (n k) (faults k) (whole k) (c .before .before .if2 .taken)
+    (passes (runs (whole k) (faults k)) (points-numbered (file k) (whole k)) (k .whole-points-refusal .ensures) (c .before .before .before .if1 .left))
+    (told c) (refused c)
+
+returns-3 : tie.Need-returns-3
+returns-3 c =
+    let k = c .before .before in
+    let all : whole k ≡ n k = omega (arith, fewer k) in
+    sym (c .before .if1 .left) ∙ k .whole-points-refusal .ensures ∙ ap (λ (m : ℕ). firstFault (runs m (faults k))) all
 
 pub points-refusal-spec : {M : Type 1} → statement M
 points-refusal-spec =
     tie.close
     (tie.spec
-    Inv-loop
-    μ-loop
-    loop-holds
+    sub-lesser
+    lesser-requires
+    whole-points-refusal-requires
+    returns
     mul-point-refusal
     add-point-refusal
     sub-point-refusal
     part-point-refusal-start
     part-point-refusal-end
     point-refusal-requires
-    returns
-    add-i
-    loop-less
-    loop-again
-    returns-2)
+    returns-2
+    returns-3)

@@ -1,9 +1,9 @@
 -- `netfile::writing::write_refusal` meets its contract.
-use mathlib.Core.Path.{_≡_, refl, sym, ap, _∙_}
+use mathlib.Core.Path.{_≡_, refl, sym, _∙_}
 use mathlib.Core.Bool.{Bool, false, cond, _||_}
-use Prim.Native.Nat.{ℕ, _-_, _*_, _≤_}
+use Prim.Native.Nat.{ℕ, _*_, _≤_}
 use native.Mathlib.Omega.{arith}
-use lib.ListN.{length, take}
+use lib.ListN.{take}
 use borrow.Author.Needs.{needs}
 use borrow.Author.Tests.{lt-ltb, le-ltb, ltb-false}
 use Rattle.net.specs.TurnedAway.{badSize, shortNet, anyBeyond}
@@ -39,22 +39,13 @@ module _ (c : tie.Else2) where
       n ≡ writeRefusal (start .args .net .now) (start .args .w) (start .args .h) short
   past e = cond-false _ 1 _ (size at) (cond-false _ 2 _ long e)
 
--- the part that was looked through is the net's own
-module _ (c : tie.After-any-beyond) where
+-- 5 does not refuse
+module _ (c : tie.After-net-beyond) where
   abbrev e : tie.Else2
-  e = c .before .before .before .before
+  e = c .before .before .before
 
-  abbrev n : ℕ
-  n = numbers (start e .args .w) (start e .args .h)
-
-  beyond-told : c .any-beyond .result ≡ anyBeyond (take n (start e .args .net .now))
-  beyond-told =
-      let same : n - 0 ≡ n = omega arith in
-      c .any-beyond .ensures ∙ ap (λ (m : ℕ). anyBeyond (take m (start e .args .net .now))) same
-
-  -- 5 does not refuse
   roomy : short e ≡ false
-  roomy = sym (or-no (start e .args .short) _ (c .before .before .before .if3 .left) (sym (le-ltb _ _ (c .before .before .if4 .left))))
+  roomy = sym (or-no (start e .args .short) _ (c .before .before .if3 .left) (sym (le-ltb _ _ (c .before .if4 .left))))
 
 bad-size-requires : tie.Need-bad-size-requires
 bad-size-requires c κs = search needs
@@ -88,27 +79,19 @@ returns-4 c =
     past (c .before .before)
     (cond-true _ 5 _ (sym (or-no (c .before .before .before .before .before .before .args .short) _ (c .before .if3 .left) (sym (lt-ltb _ _ (c .if4 .taken))))))
 
-sub-any-beyond : tie.Need-sub-any-beyond
-sub-any-beyond c = search needs
+mul-net-beyond : tie.Need-mul-net-beyond
+mul-net-beyond c = omega (arith, few (c .before .before .before .before))
 
-part-any-beyond-start : tie.Need-part-any-beyond-start
-part-any-beyond-start c = search needs
-
-part-any-beyond-end : tie.Need-part-any-beyond-end
-part-any-beyond-end c =
-    let l = ltb-false (length (c .before .before .before .before .before .before .args .net .now)) _ (long (c .before .before)) in
-    search needs
-
-any-beyond-requires : tie.Need-any-beyond-requires
-any-beyond-requires c κs = search needs
+net-beyond-requires : tie.Need-net-beyond-requires
+net-beyond-requires c κs = ltb-false _ _ (long (c .before .before))
 
 returns-5 : tie.Need-returns-5
 returns-5 c =
-    past (e (c .before)) (cond-false _ 5 _ (roomy (c .before)) (cond-true _ 3 0 (sym (beyond-told (c .before)) ∙ c .if5 .taken)))
+    past (e (c .before)) (cond-false _ 5 _ (roomy (c .before)) (cond-true _ 3 0 (sym (c .before .net-beyond .ensures) ∙ c .if5 .taken)))
 
 returns-6 : tie.Need-returns-6
 returns-6 c =
-    past (e (c .before)) (cond-false _ 5 _ (roomy (c .before)) (cond-false _ 3 0 (sym (beyond-told (c .before)) ∙ c .if5 .left) refl))
+    past (e (c .before)) (cond-false _ 5 _ (roomy (c .before)) (cond-false _ 3 0 (sym (c .before .net-beyond .ensures) ∙ c .if5 .left) refl))
 
 pub write-refusal-spec : {M : Type 1} → statement M
 write-refusal-spec =
@@ -124,9 +107,7 @@ write-refusal-spec =
     add-if4
     mul-if4
     returns-4
-    sub-any-beyond
-    part-any-beyond-start
-    part-any-beyond-end
-    any-beyond-requires
+    mul-net-beyond
+    net-beyond-requires
     returns-5
     returns-6)
