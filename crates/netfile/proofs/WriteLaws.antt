@@ -1,22 +1,24 @@
 -- What the writer stores, word after word, and how long it is.
-use mathlib.Core.Path.{_≡_, refl, ap, _∙_}
+use mathlib.Core.Path.{_≡_, refl, sym, ap, _∙_}
 use mathlib.Core.Bool.{Bool, false, _||_}
-use mathlib.Core.List.{List, _++_}
+use mathlib.Core.List.{List, [], _∷_, _++_}
 use Prim.Native.Nat.{ℕ, _+_, _*_, _≤_}
+use native.Mathlib.Nat.{le-refl}
 use native.Mathlib.Omega.{arith}
 use lib.Dec.{lit<}
 use lib.IntN.{ℤ, pos}
 use lib.ListN.{length, take, length-append}
-use lib.Seq.{sets, getD-take}
+use lib.Seq.{sets, getD-take, take-take}
 use borrow.Author.Tests.{ltb-false}
 use Rattle.exact.specs.Filling.{over, runs}
 use Rattle.exact.proofs.FillingLaws.{length-runs, runs-same, sets-after, sets-over}
 use Rattle.net.specs.Net.{numbers}
-use Rattle.net.specs.TurnedAway.{badSize, anyBeyond}
-use Rattle.net.proofs.Beyond.{cut}
+use Rattle.net.specs.TurnedAway.{firstFault, outputAfter, badSize, anyBeyond}
+use Rattle.net.proofs.Beyond.{cut, cut-short}
 use Rattle.net.proofs.Faults.{Clear, none-clear, or-none}
 use Rattle.netfile.specs.NetFile.{word, widthKind, heightKind, xKind, yKind, zKind, endKind, wordBytes, points, numberBytes, pointBytes, netFile, fileSize}
 use Rattle.netfile.specs.TurnedAway.{writeFaults, writeRefusal, noRoom}
+use Rattle.netfile.specs.Answers.{writeOutput}
 
 pub word-length : (v : ℕ) → length (wordBytes v) ≡ 4
 unfolding wordBytes
@@ -94,6 +96,14 @@ unfolding netFile
 cut-file net w h =
     ap (λ (l : List ℕ). wordBytes (word widthKind w) ++ wordBytes (word heightKind h) ++ l ++ wordBytes (word endKind 0))
     (runs-same (points w h) (λ i. pointBytes (cut net w h) (3 * i)) (λ i. pointBytes net (3 * i)) (λ i k. cut-point net (numbers w h) (3 * i) (omega (arith, k))))
+
+pub cut-write-refusal : (net : List ℤ) (w h : ℕ) (short : Bool) → writeRefusal net w h short ≡ writeRefusal (cut net w h) w h short
+cut-write-refusal net w h short =
+    let same = sym (take-take (numbers w h) (numbers w h) net (le-refl (numbers w h))) in
+    λ t. firstFault ((badSize w h, 1) ∷ (cut-short net w h t, 2) ∷ (short, 5) ∷ (anyBeyond (same t), 3) ∷ [])
+
+pub cut-write-output : (net : List ℤ) (w h : ℕ) (short : Bool) (out : List ℕ) → writeOutput net w h short out ≡ writeOutput (cut net w h) w h short out
+cut-write-output net w h short out = λ t. outputAfter (cut-write-refusal net w h short t) (sym (cut-file net w h) t) out
 
 -- ---- what a net that is taken is known by
 

@@ -15,7 +15,7 @@ ghost use Rattle.netfile.specs.NetFile.{netFile};
 ghost use Rattle.netfile.specs.Answers.{readTold, answer, copyRefusal};
 
 // Whether a net of this size does not fit `room` numbers; a bad size is refused before that counts.
-fn no_room(w: usize, h: usize, room: usize) -> bool
+fn too_short_for(w: usize, h: usize, room: usize) -> bool
     ensures { λ r. ⌜ r ≡ cond (badSize w h) false (ltb room (numbers w h)) ⌝ }
 {
     if bad_size(w, h) {
@@ -36,7 +36,7 @@ pub fn copy_through_file(
     ensures { λ r. ⌜ now (out .exit) ≡ outputAfter (copyRefusal (now (net .entry)) w h (length (now (out .entry))) (length (now (back .entry)))) (netFile (now (net .entry)) w h) (now (out .entry)) ⌝ }
     ensures { λ r. ⌜ now (back .exit) ≡ outputAfter (copyRefusal (now (net .entry)) w h (length (now (out .entry))) (length (now (back .entry)))) (take (numbers w h) (now (net .entry))) (now (back .entry)) ⌝ }
 {
-    let short = no_room(w, h, back.len());
+    let short = too_short_for(w, h, back.len());
     let written = write_with(net, w, h, short, out);
     match written {
         WriteAnswer::Written(n) => read(&out[0..n], back),

@@ -1,4 +1,4 @@
-// The reader: the whole file is looked through before the first number is stored.
+// The reader: the whole file is looked through before the first number is stored. What the inner functions ask is met by those below them in this file.
 use crate::answers::ReadAnswer;
 use crate::words::Parsed;
 use crate::words::first_number;
@@ -115,6 +115,7 @@ fn whole_points_refusal(file: &[u8], n: usize) -> u32
     0
 }
 
+// The lesser of two counts.
 fn lesser(a: usize, b: usize) -> usize
     ensures { λ r. ⌜ r ≡ min a b ⌝ }
 {

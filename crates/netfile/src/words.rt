@@ -1,4 +1,5 @@
-// Words in bytes: a word's two parts, its bytes, high byte first, and two's complement in 28 bits.
+// Words in bytes: a word's two parts, its bytes, high byte first, and two's complement in 28 bits. For the reader and the writer, which are seen to
+// meet what these functions ask.
 ghost use mathlib.Core.Path.{_≡_};
 ghost use mathlib.Core.List.{[], _∷_};
 ghost use Prim.Native.Nat.{_+_, _≤_, _<_};

@@ -1,4 +1,4 @@
-// The writer.
+// The writer: nothing is stored before it is known that nothing is refused. What the inner functions ask is met by those below them in this file.
 use crate::answers::WriteAnswer;
 use crate::words::store_number;
 use crate::words::store_word;
@@ -30,11 +30,11 @@ fn write_refusal(net: &[i32], w: usize, h: usize, short: bool, room: usize) -> u
     if short {
         return 5;
     }
-    let n = 9 * (w * h);
-    if room < 4 * (n + 3) {
+    let vertices = w * h;
+    if room < 4 * (9 * vertices + 3) {
         return 5;
     }
-    if net_beyond(net, w * h) {
+    if net_beyond(net, vertices) {
         return 3;
     }
     0

@@ -30,13 +30,13 @@ module _ (c : tie.After-write-with) where
   back = c .before .before .before .before .args .back .now
 
   told : writeTold (c .write-with .result) ≡ writeAnswer net w h (short net w h out back)
-  told = c .write-with .ensures .0 ∙ ap (λ (s : Bool). writeAnswer net w h (s || noRoom w h (length out))) (c .before .before .no-room .ensures)
+  told = c .write-with .ensures .0 ∙ ap (λ (s : Bool). writeAnswer net w h (s || noRoom w h (length out))) (c .before .before .too-short-for .ensures)
 
   left : c .write-with .last .1 .1 .1 .1 .0 ≡ writeOutput net w h (short net w h out back) out
-  left = c .write-with .ensures .1 ∙ ap (λ (s : Bool). writeOutput net w h (s || noRoom w h (length out)) out) (c .before .before .no-room .ensures)
+  left = c .write-with .ensures .1 ∙ ap (λ (s : Bool). writeOutput net w h (s || noRoom w h (length out)) out) (c .before .before .too-short-for .ensures)
 
-no-room-requires : tie.Need-no-room-requires
-no-room-requires c κs = search needs
+too-short-for-requires : tie.Need-too-short-for-requires
+too-short-for-requires c κs = search needs
 
 write-with-requires : tie.Need-write-with-requires
 write-with-requires c κs = search needs
@@ -89,7 +89,7 @@ pub copy-through-file-spec : {M : Type 1} → statement M
 copy-through-file-spec =
     tie.close
     (tie.spec
-    no-room-requires
+    too-short-for-requires
     write-with-requires
     enum-known-written
     sub-read

@@ -74,7 +74,11 @@ cast-sized-2 : tie.Need-cast-sized-2
 cast-sized-2 c = search needs
 
 sized-requires : tie.Need-sized-requires
-sized-requires c κs = sym (or-no (badSide (c .before .before .before .before .before .before .width .given .0 .0)) (badSide (c .before .height .given .0 .0)) (ap badSide (width (at c) .1) ∙ width (at c) .0 .1 .1 .0) (sym (ap badSide (height c .1) ∙ height c .0 .1 .1 .0)))
+sized-requires c κs =
+    let w = c .before .before .before .before .before .before .width .given .0 .0 in
+    let h = c .before .height .given .0 .0 in
+    sym
+    (or-no (badSide w) (badSide h) (ap badSide (width (at c) .1) ∙ width (at c) .0 .1 .1 .0) (sym (ap badSide (height c .1) ∙ height c .0 .1 .1 .0)))
 
 enum-known-height-2 : tie.Need-enum-known-height-2
 enum-known-height-2 c = search needs

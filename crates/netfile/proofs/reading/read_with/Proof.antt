@@ -111,7 +111,9 @@ returns-3 : tie.Need-returns-3
 returns-3 c =
     let file = c .before .before .before .before .before .args .file .now in
     let net = c .before .before .before .before .before .args .net .now in
-    head-refused file (c .before .before .before .before .before .args .short || shortFor file (length net)) net (sym (ap readTold (c .before .head2 .given .1)) ∙ c .before .before .before .parse-head .ensures)
+    let other = c .before .before .before .before .before .args .short in
+    head-refused file (other || shortFor file (length net)) net
+    (sym (ap readTold (c .before .head2 .given .1)) ∙ c .before .before .before .parse-head .ensures)
 
 pub read-with-spec : {M : Type 1} → statement M
 read-with-spec =

@@ -91,8 +91,10 @@ loop-again c =
 
 returns-2 : tie.Need-returns-2 Inv-loop μ-loop
 returns-2 c =
-    let all : c .before .loop .i ≡ c .before .before .before .args .n = omega arith in
-    sym (ap (λ (n : ℕ). firstFault (runs n (λ j. pointFaults (fromPoint (c .before .before .before .args .file .now) j)))) (sym all) ∙ clear-none (runs (c .before .loop .i) (λ j. pointFaults (fromPoint (c .before .before .before .args .file .now) j))) (c .before .loop .inv .1))
+    let i = c .before .loop .i in
+    let all : i ≡ c .before .before .before .args .n = omega arith in
+    let faults : ℕ → List Fault = λ j. pointFaults (fromPoint (c .before .before .before .args .file .now) j) in
+    sym (clear-none (runs i faults) (c .before .loop .inv .1)) ∙ ap (λ (n : ℕ). firstFault (runs n faults)) all
 
 pub whole-points-refusal-spec : {M : Type 1} → statement M
 whole-points-refusal-spec =

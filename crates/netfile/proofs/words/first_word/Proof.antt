@@ -13,7 +13,10 @@ turn-requires : tie.Need-turn-requires
 turn-requires c κs = search needs
 
 returns : tie.Need-returns
-returns c = c .turn .ensures ∙ ap turned (c .before .load-low-first .ensures) ∙ turned-first (c .before .before .before .args .bytes .now) (λ i. c .before .before .shared-slice-known .given i .fits)
+returns c =
+    c .turn .ensures
+    ∙ ap turned (c .before .load-low-first .ensures)
+    ∙ turned-first (c .before .before .before .args .bytes .now) (λ i. c .before .before .shared-slice-known .given i .fits)
 
 pub first-word-spec : {M : Type 1} → statement M
 first-word-spec = tie.close (tie.spec load-low-first-requires turn-requires returns)

@@ -32,7 +32,10 @@ cast-store-word-2 : tie.Need-cast-store-word-2
 cast-store-word-2 c = omega (arith, size (c .before .before .before .before .before) .low)
 
 store-word-requires-2 : tie.Need-store-word-requires-2
-store-word-requires-2 c κs = let s = c .before .before .before .before .before .before in (lit< tt, omega (arith, size s .low), omega (arith, s .pre .2, ap length (c .before .before .before .store-word .ensures), length-sets (s .args .out .now) 0 (wordBytes (word widthKind (s .args .w)))))
+store-word-requires-2 c κs =
+    let s = c .before .before .before .before .before .before in
+    let first = ap length (c .before .before .before .store-word .ensures) in
+    (lit< tt, omega (arith, size s .low), omega (arith, s .pre .2, first, length-sets (s .args .out .now) 0 (wordBytes (word widthKind (s .args .w)))))
 
 store-points-requires : tie.Need-store-points-requires
 store-points-requires c κs = search needs
@@ -58,7 +61,8 @@ returns c =
     let s = first .before .before .before in
     let n = points (s .args .w) (s .args .h) in
     let points = runs n (λ i. pointBytes (s .args .net .now) (3 * i)) in
-    let stored = body .store-points .ensures ∙ (λ t. sets ((second .store-word2 .ensures ∙ (λ u. sets (first .store-word .ensures u) 4 (wordBytes (word heightKind (s .args .h))))) t) 8 points) in
+    let sides = second .store-word2 .ensures ∙ (λ t. sets (first .store-word .ensures t) 4 (wordBytes (word heightKind (s .args .h)))) in
+    let stored = body .store-points .ensures ∙ (λ t. sets (sides t) 8 points) in
     third .store-word3 .ensures
     ∙ (λ t. sets (stored t) (8 + 12 * n) (wordBytes (word endKind 0)))
     ∙ file-stored (s .args .net .now) (s .args .w) (s .args .h) (s .args .out .now) (s .pre .2)

@@ -62,25 +62,22 @@ returns-2 c = cond-false _ 1 _ (size (c .before .before)) (cond-true _ 2 _ (sym 
 returns-3 : tie.Need-returns-3
 returns-3 c = past (c .before) (cond-true _ 5 _ (sym (or-yes (c .before .before .before .before .before .args .short) _ (c .if3 .taken))))
 
-mul-n : tie.Need-mul-n
-mul-n c = omega (arith, few (c .before .before .before))
+mul-vertices : tie.Need-mul-vertices
+mul-vertices c = omega (arith, few (c .before .before .before))
 
-mul-n-2 : tie.Need-mul-n-2
-mul-n-2 c = omega (arith, few (c .before .before .before))
+mul-if4 : tie.Need-mul-if4
+mul-if4 c = omega (arith, few (c .before .before .before))
 
 add-if4 : tie.Need-add-if4
 add-if4 c = omega (arith, few (c .before .before .before))
 
-mul-if4 : tie.Need-mul-if4
-mul-if4 c = omega (arith, few (c .before .before .before))
+mul-if4-2 : tie.Need-mul-if4-2
+mul-if4-2 c = omega (arith, few (c .before .before .before))
 
 returns-4 : tie.Need-returns-4
 returns-4 c =
     past (c .before .before)
     (cond-true _ 5 _ (sym (or-no (c .before .before .before .before .before .before .args .short) _ (c .before .if3 .left) (sym (lt-ltb _ _ (c .if4 .taken))))))
-
-mul-net-beyond : tie.Need-mul-net-beyond
-mul-net-beyond c = omega (arith, few (c .before .before .before .before))
 
 net-beyond-requires : tie.Need-net-beyond-requires
 net-beyond-requires c κs = ltb-false _ _ (long (c .before .before))
@@ -102,12 +99,11 @@ write-refusal-spec =
     short-net-requires
     returns-2
     returns-3
-    mul-n
-    mul-n-2
-    add-if4
+    mul-vertices
     mul-if4
+    add-if4
+    mul-if4-2
     returns-4
-    mul-net-beyond
     net-beyond-requires
     returns-5
     returns-6)

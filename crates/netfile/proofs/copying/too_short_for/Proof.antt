@@ -1,4 +1,4 @@
--- `netfile::copying::no_room` meets its contract.
+-- `netfile::copying::too_short_for` meets its contract.
 use mathlib.Core.Path.{_≡_, refl, sym, _∙_}
 use mathlib.Core.Bool.{false}
 use native.Mathlib.Omega.{arith}
@@ -6,8 +6,8 @@ use borrow.Author.Needs.{needs}
 use Rattle.net.specs.TurnedAway.{badSize}
 use Rattle.net.proofs.Places.{good-size, few-vertices}
 use Rattle.net.proofs.Faults.{cond-true, cond-false}
-use Rattle.netfile.proofs.copying.no_room.Statement.{statement}
-use Rattle.netfile.proofs.copying.no_room.Tie as tie
+use Rattle.netfile.proofs.copying.too_short_for.Statement.{statement}
+use Rattle.netfile.proofs.copying.too_short_for.Tie as tie
 
 size : (c : tie.Else1) → badSize (c .before .before .args .w) (c .before .before .args .h) ≡ false
 size c = sym (c .before .bad-size .ensures) ∙ c .if1 .left
@@ -27,5 +27,5 @@ mul-result-2 c = omega (arith, few-vertices (good-size (c .before .before .args 
 returns-2 : tie.Need-returns-2
 returns-2 c = cond-false _ false _ (size c) refl
 
-pub no-room-spec : {M : Type 1} → statement M
-no-room-spec = tie.close (tie.spec bad-size-requires returns mul-result mul-result-2 returns-2)
+pub too-short-for-spec : {M : Type 1} → statement M
+too-short-for-spec = tie.close (tie.spec bad-size-requires returns mul-result mul-result-2 returns-2)
