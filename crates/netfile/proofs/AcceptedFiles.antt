@@ -135,12 +135,12 @@ point-numbers left = refl
 
 -- ---- the net that was read
 
-module _ (file : List ℕ) (lent : List ℤ) (taken : Readable file (length lent)) where
+module _ (file : List ℕ) (lent : List ℤ) (taken : Readable file lent) where
   abbrev short : Bool
   short = shortFor file (length lent)
 
   abbrev after : List ℤ
-  after = readNet file short lent
+  after = readNet file lent
 
   abbrev width : ℕ
   width = w file short taken
@@ -230,7 +230,7 @@ module _ (file : List ℕ) (lent : List ℤ) (taken : Readable file (length lent
 pub writes-back-file : WritesBack
 writes-back-file file lent out small e k =
     let short = shortFor file (length lent) in
-    let after = readNet file short lent in
+    let after = readNet file lent in
     let w = fileWidth file in
     let h = fileHeight file in
     let long = whole-length file short e in

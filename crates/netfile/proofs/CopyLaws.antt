@@ -14,15 +14,15 @@ use Rattle.net.specs.Net.{numbers}
 use Rattle.net.specs.TurnedAway.{badSize, shortNet, anyBeyond, outputAfter}
 use Rattle.net.proofs.Faults.{clear-none, or-none, answered, not-accepted, accepted-answer, refused-answer, when-accepted, when-refused}
 use Rattle.netfile.specs.NetFile.{netFile, fileSize}
-use Rattle.netfile.specs.TurnedAway.{writeFaults, writeRefusal, noRoom, shortFor}
-use Rattle.netfile.specs.Answers.{answer, writeAnswer, writeOutput, readAnswer, readNet, copyRefusal}
+use Rattle.netfile.specs.TurnedAway.{writeFaults, writeRefusal, noRoom}
+use Rattle.netfile.specs.Answers.{answer, writeAnswerWith, writeOutputWith, readAnswer, readNet, copyRefusal}
 use Rattle.netfile.specs.Promises.{Writable}
 use Rattle.netfile.proofs.WriteLaws.{file-length, write-clear}
 use Rattle.netfile.proofs.WrittenFiles.{reads-back-net}
 
 module _ (net : List ℤ) (w h : ℕ) (out : List ℕ) (back : List ℤ) where
   abbrev refusal : ℕ
-  refusal = copyRefusal net w h (length out) (length back)
+  refusal = copyRefusal net w h out back
 
   -- the room of `back` counts only where the size is good
   abbrev pub short : Bool
@@ -61,7 +61,7 @@ module _ (net : List ℤ) (w h : ℕ) (out : List ℕ) (back : List ℤ) where
     written-fits = omega (arith, fits .2, length-over (netFile net w h) out (omega (arith, fits .2, file-length net w h)))
 
   -- the file was written, and then read
-  module _ {n : ℕ} {l : List ℕ} (e : _≡_ {A = ℕ × List ℕ} (0, n ∷ []) (writeAnswer net w h short)) (f : l ≡ writeOutput net w h short out) where
+  module _ {n : ℕ} {l : List ℕ} (e : _≡_ {A = ℕ × List ℕ} (0, n ∷ []) (writeAnswerWith net w h short)) (f : l ≡ writeOutputWith net w h short out) where
     accepted : (writeRefusal net w h short ≡ 0) × (n ∷ [] ≡ fileSize w h ∷ [])
     accepted = answered (writeRefusal net w h short) (fileSize w h ∷ []) e
 
@@ -80,24 +80,23 @@ module _ (net : List ℤ) (w h : ℕ) (out : List ℕ) (back : List ℤ) where
     part : take (n - 0) l ≡ netFile net w h
     part = (λ t. take (count t - 0) (laid t)) ∙ written-part none
 
-    pub copied : {told : ℕ × List ℕ} {m : List ℤ} → told ≡ readAnswer (take (n - 0) l) (shortFor (take (n - 0) l) (length back)) →
-        m ≡ readNet (take (n - 0) l) (shortFor (take (n - 0) l) (length back)) back →
+    pub copied : {told : ℕ × List ℕ} {m : List ℤ} → told ≡ readAnswer (take (n - 0) l) back → m ≡ readNet (take (n - 0) l) back →
         (told ≡ answer refusal (w ∷ h ∷ [])) × (l ≡ outputAfter refusal (netFile net w h) out) × (m ≡ outputAfter refusal (take (numbers w h) net) back)
     copied p q =
         let found = reads-back-net net w h back (fits none .0) (fits none .1) in (
           p
-              ∙ ap (λ (file : List ℕ). readAnswer file (shortFor file (length back))) part
+              ∙ ap (λ (file : List ℕ). readAnswer file back) part
               ∙ found .0
               ∙ accepted-answer refusal (w ∷ h ∷ []) none refl,
           laid ∙ when-accepted refusal (over (netFile net w h) out) out none,
           q
-              ∙ ap (λ (file : List ℕ). readNet file (shortFor file (length back)) back) part
+              ∙ ap (λ (file : List ℕ). readNet file back) part
               ∙ found .1
               ∙ when-accepted refusal (over (take (numbers w h) net) back) back none,
         )
 
   -- or refused
-  pub not-copied : {n : ℕ} {l : List ℕ} → _≡_ {A = ℕ × List ℕ} (n, []) (writeAnswer net w h short) → l ≡ writeOutput net w h short out →
+  pub not-copied : {n : ℕ} {l : List ℕ} → _≡_ {A = ℕ × List ℕ} (n, []) (writeAnswerWith net w h short) → l ≡ writeOutputWith net w h short out →
       (_≡_ {A = ℕ × List ℕ} (n, []) (answer refusal (w ∷ h ∷ []))) × (l ≡ outputAfter refusal (netFile net w h) out) × (back ≡ outputAfter refusal (take (numbers w h) net) back)
   not-copied {n} {l} e f =
       let told : n ≡ refusal = (λ t. e t .0) ∙ same-refusal in

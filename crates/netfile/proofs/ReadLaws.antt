@@ -14,7 +14,7 @@ use Rattle.net.specs.TurnedAway.{firstFault, badSide, badSize}
 use Rattle.net.proofs.Faults.{Clear, Numbered, none-clear, clear-parts, clear-run, fault-before, fault-after, numbered-append, numbered-runs, answered, not-accepted, accepted-answer, refused-answer, when-accepted, when-refused, or-no, or-none}
 use Rattle.netfile.specs.NetFile.{points, fileWidth, fileHeight, fileNumbers, fromPoint}
 use Rattle.netfile.specs.TurnedAway.{pointFaults, endFaults, headFaults, bodyFaults, readFaults, readRefusal, shortFor}
-use Rattle.netfile.specs.Answers.{headAnswer, readAnswer, readNet}
+use Rattle.netfile.specs.Answers.{headAnswer, readAnswerWith, readNetWith}
 use Rattle.netfile.proofs.Parsing.{point-numbered, next-begins}
 
 -- ---- the faults have numbers
@@ -83,7 +83,7 @@ module _ (file : List ℕ) (short : Bool) (net : List ℤ) where
       (none-clear (headFaults file short) (head-numbered file short) (q .0), q .1)
 
   turned-away : {n : ℕ} → n ≡ readRefusal file short → (n ≡ 0 → ⊥) →
-      (_≡_ {A = ℕ × List ℕ} (n, []) (readAnswer file short)) × (net ≡ readNet file short net)
+      (_≡_ {A = ℕ × List ℕ} (n, []) (readAnswerWith file short)) × (net ≡ readNetWith file short net)
   turned-away e there = (
     refused-answer (readRefusal file short) sides e there,
     when-refused (readRefusal file short) (over (fileNumbers file) net) net (λ z. there (e ∙ z)),
@@ -91,7 +91,7 @@ module _ (file : List ℕ) (short : Bool) (net : List ℤ) where
 
   -- or refused
   pub head-refused : {n : ℕ} → _≡_ {A = ℕ × List ℕ} (n, []) (headAnswer file short) →
-      (_≡_ {A = ℕ × List ℕ} (n, []) (readAnswer file short)) × (net ≡ readNet file short net)
+      (_≡_ {A = ℕ × List ℕ} (n, []) (readAnswerWith file short)) × (net ≡ readNetWith file short net)
   head-refused {n} e =
       let told : n ≡ firstFault (headFaults file short) = λ t. e t .0 in
       let there = not-accepted (firstFault (headFaults file short)) sides (lit< tt) e in
@@ -99,13 +99,13 @@ module _ (file : List ℕ) (short : Bool) (net : List ℤ) where
 
   -- the rest was refused
   pub body-refused : {n : ℕ} → Clear (headFaults file short) → n ≡ firstFault (bodyFaults file body) → (n ≡ 0 → ⊥) →
-      (_≡_ {A = ℕ × List ℕ} (n, []) (readAnswer file short)) × (net ≡ readNet file short net)
+      (_≡_ {A = ℕ × List ℕ} (n, []) (readAnswerWith file short)) × (net ≡ readNetWith file short net)
   body-refused k e there = turned-away (e ∙ fault-after (headFaults file short) (bodyFaults file body) k) there
 
   -- or there is no fault
   pub taken : {l : List ℤ} {values : List ℕ} → Clear (headFaults file short) → firstFault (bodyFaults file body) ≡ 0 → values ≡ sides →
       l ≡ over (fileNumbers file) net →
-      (_≡_ {A = ℕ × List ℕ} (0, values) (readAnswer file short)) × (l ≡ readNet file short net)
+      (_≡_ {A = ℕ × List ℕ} (0, values) (readAnswerWith file short)) × (l ≡ readNetWith file short net)
   taken {l} {values} k z v e =
       let none : readRefusal file short ≡ 0 = sym (fault-after (headFaults file short) (bodyFaults file body) k) ∙ z in (
         accepted-answer (readRefusal file short) sides none v,

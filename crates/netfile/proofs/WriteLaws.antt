@@ -18,7 +18,7 @@ use Rattle.net.proofs.Beyond.{cut, cut-short}
 use Rattle.net.proofs.Faults.{Clear, none-clear, or-none}
 use Rattle.netfile.specs.NetFile.{word, widthKind, heightKind, xKind, yKind, zKind, endKind, wordBytes, points, numberBytes, pointBytes, netFile, fileSize}
 use Rattle.netfile.specs.TurnedAway.{writeFaults, writeRefusal, noRoom}
-use Rattle.netfile.specs.Answers.{writeOutput}
+use Rattle.netfile.specs.Answers.{writeOutputWith}
 
 pub word-length : (v : ℕ) → length (wordBytes v) ≡ 4
 unfolding wordBytes
@@ -102,7 +102,7 @@ cut-write-refusal net w h short =
     let same = sym (take-take (numbers w h) (numbers w h) net (le-refl (numbers w h))) in
     λ t. firstFault ((badSize w h, 1) ∷ (cut-short net w h t, 2) ∷ (short, 5) ∷ (anyBeyond (same t), 3) ∷ [])
 
-pub cut-write-output : (net : List ℤ) (w h : ℕ) (short : Bool) (out : List ℕ) → writeOutput net w h short out ≡ writeOutput (cut net w h) w h short out
+pub cut-write-output : (net : List ℤ) (w h : ℕ) (short : Bool) (out : List ℕ) → writeOutputWith net w h short out ≡ writeOutputWith (cut net w h) w h short out
 cut-write-output net w h short out = λ t. outputAfter (cut-write-refusal net w h short t) (sym (cut-file net w h) t) out
 
 -- ---- what a net that is taken is known by

@@ -5,10 +5,11 @@ use mathlib.Core.List.{List, [], _∷_}
 use Prim.Native.Nat.{ℕ}
 use lib.Dec.{ltb}
 use lib.IntN.{ℤ}
+use lib.ListN.{length}
 use Rattle.net.specs.Net.{numbers}
 use Rattle.net.specs.TurnedAway.{firstFault, accepted, outputAfter}
 use Rattle.netfile.specs.NetFile.{netFile, fileSize, fileWidth, fileHeight, fileNumbers}
-use Rattle.netfile.specs.TurnedAway.{noRoom, writeRefusal, headFaults, readRefusal}
+use Rattle.netfile.specs.TurnedAway.{noRoom, writeRefusal, headFaults, readRefusal, shortFor}
 use Rattle.netfile.specs.declared.answers.WriteAnswer.{WriteAnswer}
 use Rattle.netfile.specs.declared.answers.WriteAnswer.the-variants as written
 use Rattle.netfile.specs.declared.answers.ReadAnswer.{ReadAnswer}
@@ -35,27 +36,41 @@ wordTold (parsed.Refused n) = (n, [])
 abbrev pub answer : ℕ → List ℕ → ℕ × List ℕ
 answer refusal values = (refusal, cond (accepted refusal) values [])
 
--- what writing answers and leaves in the lent output; `short` is whether that is too short
-abbrev pub writeAnswer : List ℤ → ℕ → ℕ → Bool → ℕ × List ℕ
-writeAnswer net w h short = answer (writeRefusal net w h short) (fileSize w h ∷ [])
+-- what writing answers and leaves in the lent output, where `short` is whether a lent output is too short
+abbrev pub writeAnswerWith : List ℤ → ℕ → ℕ → Bool → ℕ × List ℕ
+writeAnswerWith net w h short = answer (writeRefusal net w h short) (fileSize w h ∷ [])
 
-abbrev pub writeOutput : List ℤ → ℕ → ℕ → Bool → List ℕ → List ℕ
-writeOutput net w h short out = outputAfter (writeRefusal net w h short) (netFile net w h) out
+abbrev pub writeOutputWith : List ℤ → ℕ → ℕ → Bool → List ℕ → List ℕ
+writeOutputWith net w h short out = outputAfter (writeRefusal net w h short) (netFile net w h) out
+
+-- where that is the one output
+abbrev pub writeAnswer : List ℤ → ℕ → ℕ → List ℕ → ℕ × List ℕ
+writeAnswer net w h out = writeAnswerWith net w h (noRoom w h (length out))
+
+abbrev pub writeOutput : List ℤ → ℕ → ℕ → List ℕ → List ℕ
+writeOutput net w h out = writeOutputWith net w h (noRoom w h (length out)) out
 
 -- what the first two words answer, up to 5
 abbrev pub headAnswer : List ℕ → Bool → ℕ × List ℕ
 headAnswer file short = answer (firstFault (headFaults file short)) (fileWidth file ∷ fileHeight file ∷ [])
 
--- what reading answers and leaves in the lent net; `short` is whether that is too short
-abbrev pub readAnswer : List ℕ → Bool → ℕ × List ℕ
-readAnswer file short = answer (readRefusal file short) (fileWidth file ∷ fileHeight file ∷ [])
+-- what reading answers and leaves in the lent net, where `short` is whether a lent output is too short
+abbrev pub readAnswerWith : List ℕ → Bool → ℕ × List ℕ
+readAnswerWith file short = answer (readRefusal file short) (fileWidth file ∷ fileHeight file ∷ [])
 
-abbrev pub readNet : List ℕ → Bool → List ℤ → List ℤ
-readNet file short net = outputAfter (readRefusal file short) (fileNumbers file) net
+abbrev pub readNetWith : List ℕ → Bool → List ℤ → List ℤ
+readNetWith file short net = outputAfter (readRefusal file short) (fileNumbers file) net
+
+-- where that is the lent net
+abbrev pub readAnswer : List ℕ → List ℤ → ℕ × List ℕ
+readAnswer file net = readAnswerWith file (shortFor file (length net))
+
+abbrev pub readNet : List ℕ → List ℤ → List ℤ
+readNet file net = readNetWith file (shortFor file (length net)) net
 
 -- writing and then reading what was written: 5 is told of either output
-abbrev pub copyRefusal : List ℤ → ℕ → ℕ → ℕ → ℕ → ℕ
-copyRefusal net w h room back = writeRefusal net w h (ltb back (numbers w h) || noRoom w h room)
+abbrev pub copyRefusal : List ℤ → ℕ → ℕ → List ℕ → List ℤ → ℕ
+copyRefusal net w h out back = writeRefusal net w h (ltb (length back) (numbers w h) || noRoom w h (length out))
 
 -- worked cases: what answers tell, accepted and refused
 told :

@@ -9,7 +9,7 @@ use lib.ListN.{length, getD, take}
 use Rattle.exact.specs.Filling.{over}
 use Rattle.net.specs.Net.{numbers}
 use Rattle.netfile.specs.NetFile.{netFile, fileWidth, fileHeight}
-use Rattle.netfile.specs.TurnedAway.{noRoom, shortFor, writeRefusal, readRefusal}
+use Rattle.netfile.specs.TurnedAway.{shortFor, writeRefusal, readRefusal}
 use Rattle.netfile.specs.Answers.{writeAnswer, writeOutput, readAnswer, readNet}
 
 -- the elements of a slice of bytes are bytes
@@ -20,23 +20,23 @@ AllBytes file = (i : ℕ) → getD file i 0 < 256
 abbrev pub Writable : List ℤ → ℕ → ℕ → Type 0
 Writable net w h = writeRefusal net w h false ≡ 0
 
--- a file that the reader takes into a net of so many numbers
-abbrev pub Readable : List ℕ → ℕ → Type 0
-Readable file room = readRefusal file (shortFor file room) ≡ 0
+-- a file that the reader takes into a lent net
+abbrev pub Readable : List ℕ → List ℤ → Type 0
+Readable file lent = readRefusal file (shortFor file (length lent)) ≡ 0
 
--- a written file reads back to its net, into any net that is at least as long
+-- a written file reads back to its net, into any lent net that is at least as long
 abbrev pub ReadsBack : Type 0
 ReadsBack =
     (net : List ℤ) (w h : ℕ) (lent : List ℤ) → Writable net w h → numbers w h ≤ length lent →
-    (readAnswer (netFile net w h) (shortFor (netFile net w h) (length lent)) ≡ (0, w ∷ h ∷ []))
-    × (readNet (netFile net w h) (shortFor (netFile net w h) (length lent)) lent ≡ over (take (numbers w h) net) lent)
+    (readAnswer (netFile net w h) lent ≡ (0, w ∷ h ∷ []))
+    × (readNet (netFile net w h) lent ≡ over (take (numbers w h) net) lent)
 
 -- an accepted file, read and written again into any output that is at least as long, is the same bytes
 abbrev pub WritesBack : Type 0
 WritesBack =
-    (file : List ℕ) (lent : List ℤ) (out : List ℕ) → AllBytes file → Readable file (length lent) → length file ≤ length out →
-    (writeAnswer (readNet file (shortFor file (length lent)) lent) (fileWidth file) (fileHeight file) (noRoom (fileWidth file) (fileHeight file) (length out)) ≡ (0, length file ∷ []))
-    × (writeOutput (readNet file (shortFor file (length lent)) lent) (fileWidth file) (fileHeight file) (noRoom (fileWidth file) (fileHeight file) (length out)) out ≡ over file out)
+    (file : List ℕ) (lent : List ℤ) (out : List ℕ) → AllBytes file → Readable file lent → length file ≤ length out →
+    (writeAnswer (readNet file lent) (fileWidth file) (fileHeight file) out ≡ (0, length file ∷ []))
+    × (writeOutput (readNet file lent) (fileWidth file) (fileHeight file) out ≡ over file out)
 
 -- two nets with the same file have the same width, height and first 9wh numbers
 abbrev pub OneNet : Type 0

@@ -8,7 +8,7 @@ ghost use mathlib.Core.Path.{_≡_};
 ghost use mathlib.Core.List.{[], _∷_};
 ghost use mathlib.Core.Bool.{false, cond};
 ghost use lib.Dec.{ltb};
-ghost use lib.ListN.{length, take};
+ghost use lib.ListN.{take};
 ghost use Rattle.net.specs.Net.{numbers};
 ghost use Rattle.net.specs.TurnedAway.{badSize, outputAfter};
 ghost use Rattle.netfile.specs.NetFile.{netFile};
@@ -32,9 +32,9 @@ pub fn copy_through_file(
     out: &mut [u8],
     back: &mut [i32],
 ) -> ReadAnswer
-    ensures { λ r. ⌜ readTold r ≡ answer (copyRefusal (now (net .entry)) w h (length (now (out .entry))) (length (now (back .entry)))) (w ∷ h ∷ []) ⌝ }
-    ensures { λ r. ⌜ now (out .exit) ≡ outputAfter (copyRefusal (now (net .entry)) w h (length (now (out .entry))) (length (now (back .entry)))) (netFile (now (net .entry)) w h) (now (out .entry)) ⌝ }
-    ensures { λ r. ⌜ now (back .exit) ≡ outputAfter (copyRefusal (now (net .entry)) w h (length (now (out .entry))) (length (now (back .entry)))) (take (numbers w h) (now (net .entry))) (now (back .entry)) ⌝ }
+    ensures { λ r. ⌜ readTold r ≡ answer (copyRefusal (now (net .entry)) w h (now (out .entry)) (now (back .entry))) (w ∷ h ∷ []) ⌝ }
+    ensures { λ r. ⌜ now (out .exit) ≡ outputAfter (copyRefusal (now (net .entry)) w h (now (out .entry)) (now (back .entry))) (netFile (now (net .entry)) w h) (now (out .entry)) ⌝ }
+    ensures { λ r. ⌜ now (back .exit) ≡ outputAfter (copyRefusal (now (net .entry)) w h (now (out .entry)) (now (back .entry))) (take (numbers w h) (now (net .entry))) (now (back .entry)) ⌝ }
 {
     let short = too_short_for(w, h, back.len());
     let written = write_with(net, w, h, short, out);

@@ -18,7 +18,7 @@ ghost use Rattle.net.specs.Net.{numbers};
 ghost use Rattle.net.specs.TurnedAway.{badSize, firstFault};
 ghost use Rattle.netfile.specs.NetFile.{payloadOf, firstWord, firstPoint, fromPoint};
 ghost use Rattle.netfile.specs.TurnedAway.{sideFaults, numberFaults, pointFaults, endFaults, bodyFaults, shortFor};
-ghost use Rattle.netfile.specs.Answers.{wordTold, readTold, answer, headAnswer, readAnswer, readNet};
+ghost use Rattle.netfile.specs.Answers.{wordTold, readTold, answer, headAnswer, readAnswerWith, readNetWith, readAnswer, readNet};
 
 // A side's word: its payload, or 7, 8 or 1.
 fn parse_side(left: &[u8], kind: u32) -> Parsed
@@ -194,8 +194,8 @@ fn load_points(file: &[u8], n: usize, net: &mut [i32])
 
 // The same as `read`, for the crates above: `short` is whether another output that they were lent is too short, which is 5 too.
 pub fn read_with(file: &[u8], short: bool, net: &mut [i32]) -> ReadAnswer
-    ensures { λ r. ⌜ readTold r ≡ readAnswer (now (file .entry)) (short || shortFor (now (file .entry)) (length (now (net .entry)))) ⌝ }
-    ensures { λ r. ⌜ now (net .exit) ≡ readNet (now (file .entry)) (short || shortFor (now (file .entry)) (length (now (net .entry)))) (now (net .entry)) ⌝ }
+    ensures { λ r. ⌜ readTold r ≡ readAnswerWith (now (file .entry)) (short || shortFor (now (file .entry)) (length (now (net .entry)))) ⌝ }
+    ensures { λ r. ⌜ now (net .exit) ≡ readNetWith (now (file .entry)) (short || shortFor (now (file .entry)) (length (now (net .entry)))) (now (net .entry)) ⌝ }
 {
     let head = parse_head(file, short, net.len());
     match head {
@@ -214,8 +214,8 @@ pub fn read_with(file: &[u8], short: bool, net: &mut [i32]) -> ReadAnswer
 
 // The net of a file over the front of `net`, or the first fault in the order of the bytes.
 pub fn read(file: &[u8], net: &mut [i32]) -> ReadAnswer
-    ensures { λ r. ⌜ readTold r ≡ readAnswer (now (file .entry)) (shortFor (now (file .entry)) (length (now (net .entry)))) ⌝ }
-    ensures { λ r. ⌜ now (net .exit) ≡ readNet (now (file .entry)) (shortFor (now (file .entry)) (length (now (net .entry)))) (now (net .entry)) ⌝ }
+    ensures { λ r. ⌜ readTold r ≡ readAnswer (now (file .entry)) (now (net .entry)) ⌝ }
+    ensures { λ r. ⌜ now (net .exit) ≡ readNet (now (file .entry)) (now (net .entry)) ⌝ }
 {
     read_with(file, false, net)
 }

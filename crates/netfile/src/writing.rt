@@ -15,7 +15,7 @@ ghost use Rattle.net.specs.Net.{numbers};
 ghost use Rattle.net.specs.TurnedAway.{badSize, anyBeyond};
 ghost use Rattle.netfile.specs.NetFile.{pointBytes, netFile, fileSize};
 ghost use Rattle.netfile.specs.TurnedAway.{noRoom, writeRefusal};
-ghost use Rattle.netfile.specs.Answers.{writeTold, writeAnswer, writeOutput};
+ghost use Rattle.netfile.specs.Answers.{writeTold, writeAnswerWith, writeOutputWith, writeAnswer, writeOutput};
 
 // The number of the first fault, 1, 2, 5 or 3, or 0 where there is none.
 fn write_refusal(net: &[i32], w: usize, h: usize, short: bool, room: usize) -> u32
@@ -79,8 +79,8 @@ fn store_file(net: &[i32], w: usize, h: usize, out: &mut [u8])
 
 // The same as `write`, for the crates above: `short` is whether another output that they were lent is too short, which is 5 too.
 pub fn write_with(net: &[i32], w: usize, h: usize, short: bool, out: &mut [u8]) -> WriteAnswer
-    ensures { λ r. ⌜ writeTold r ≡ writeAnswer (now (net .entry)) w h (short || noRoom w h (length (now (out .entry)))) ⌝ }
-    ensures { λ r. ⌜ now (out .exit) ≡ writeOutput (now (net .entry)) w h (short || noRoom w h (length (now (out .entry)))) (now (out .entry)) ⌝ }
+    ensures { λ r. ⌜ writeTold r ≡ writeAnswerWith (now (net .entry)) w h (short || noRoom w h (length (now (out .entry)))) ⌝ }
+    ensures { λ r. ⌜ now (out .exit) ≡ writeOutputWith (now (net .entry)) w h (short || noRoom w h (length (now (out .entry)))) (now (out .entry)) ⌝ }
 {
     let refusal = write_refusal(net, w, h, short, out.len());
     if refusal == 0 {
@@ -95,8 +95,8 @@ pub fn write_with(net: &[i32], w: usize, h: usize, short: bool, out: &mut [u8]) 
 
 // The net's file over the front of `out`, or the first of 1, 2, 5, 3.
 pub fn write(net: &[i32], w: usize, h: usize, out: &mut [u8]) -> WriteAnswer
-    ensures { λ r. ⌜ writeTold r ≡ writeAnswer (now (net .entry)) w h (noRoom w h (length (now (out .entry)))) ⌝ }
-    ensures { λ r. ⌜ now (out .exit) ≡ writeOutput (now (net .entry)) w h (noRoom w h (length (now (out .entry)))) (now (out .entry)) ⌝ }
+    ensures { λ r. ⌜ writeTold r ≡ writeAnswer (now (net .entry)) w h (now (out .entry)) ⌝ }
+    ensures { λ r. ⌜ now (out .exit) ≡ writeOutput (now (net .entry)) w h (now (out .entry)) ⌝ }
 {
     write_with(net, w, h, false, out)
 }

@@ -7,7 +7,7 @@ use lib.IntN.{ℤ}
 use lib.ListN.{length}
 use borrow.Author.Needs.{needs}
 use Rattle.netfile.specs.TurnedAway.{noRoom}
-use Rattle.netfile.specs.Answers.{writeTold, writeAnswer, writeOutput}
+use Rattle.netfile.specs.Answers.{writeTold, writeAnswerWith, writeOutputWith}
 use Rattle.netfile.proofs.CopyLaws.{short, part-there, copied, not-copied}
 use Rattle.netfile.proofs.copying.copy_through_file.Statement.{statement}
 use Rattle.netfile.proofs.copying.copy_through_file.Tie as tie
@@ -29,11 +29,11 @@ module _ (c : tie.After-write-with) where
   abbrev back : List ℤ
   back = c .before .before .before .before .args .back .now
 
-  told : writeTold (c .write-with .result) ≡ writeAnswer net w h (short net w h out back)
-  told = c .write-with .ensures .0 ∙ ap (λ (s : Bool). writeAnswer net w h (s || noRoom w h (length out))) (c .before .before .too-short-for .ensures)
+  told : writeTold (c .write-with .result) ≡ writeAnswerWith net w h (short net w h out back)
+  told = c .write-with .ensures .0 ∙ ap (λ (s : Bool). writeAnswerWith net w h (s || noRoom w h (length out))) (c .before .before .too-short-for .ensures)
 
-  left : c .write-with .last .1 .1 .1 .1 .0 ≡ writeOutput net w h (short net w h out back) out
-  left = c .write-with .ensures .1 ∙ ap (λ (s : Bool). writeOutput net w h (s || noRoom w h (length out)) out) (c .before .before .too-short-for .ensures)
+  left : c .write-with .last .1 .1 .1 .1 .0 ≡ writeOutputWith net w h (short net w h out back) out
+  left = c .write-with .ensures .1 ∙ ap (λ (s : Bool). writeOutputWith net w h (s || noRoom w h (length out)) out) (c .before .before .too-short-for .ensures)
 
 too-short-for-requires : tie.Need-too-short-for-requires
 too-short-for-requires c κs = search needs
