@@ -224,21 +224,23 @@ fn six_at_the_smallest_and_the_greatest_sides() {
     }
 }
 
+/// Expects that the call refuses this number beyond its range and takes it at the limits.
+fn expect_range(mut call: Call, position: usize) {
+    for (values, refusal) in [(&BEYOND[..], 3), (&[LIMIT, -LIMIT], 0)] {
+        for &value in values {
+            call.net[position] = value;
+            call.expect(refusal);
+        }
+    }
+}
+
 #[test]
 fn three_each_number_of_the_triangle_beyond_its_range() {
     let net = net();
     for triangle in all_triangles() {
         for position in triangle.corners().into_iter().flat_map(positions) {
             for ask in asks_of(triangle) {
-                let mut call = Call::new(&net, SIZE, ask);
-                for value in BEYOND {
-                    call.net[position] = value;
-                    call.expect(3);
-                }
-                for value in [LIMIT, -LIMIT] {
-                    call.net[position] = value;
-                    call.expect(0);
-                }
+                expect_range(Call::new(&net, SIZE, ask), position);
             }
         }
     }
@@ -248,15 +250,10 @@ fn three_each_number_of_the_triangle_beyond_its_range() {
 fn three_each_number_of_a_written_net_beyond_its_range() {
     let net = net();
     for position in 0..net.len() {
-        let mut call = Call::new(&net, SIZE, Ask::Write { written_len: 1 });
-        for value in BEYOND {
-            call.net[position] = value;
-            call.expect(3);
-        }
-        for value in [LIMIT, -LIMIT] {
-            call.net[position] = value;
-            call.expect(0);
-        }
+        expect_range(
+            Call::new(&net, SIZE, Ask::Write { written_len: 1 }),
+            position,
+        );
     }
 }
 

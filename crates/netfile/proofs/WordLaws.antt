@@ -37,9 +37,9 @@ word-of-parts v e = omega arith
 
 -- ---- bytes
 
--- a quotient by two bytes and by three, as quotients by one
-quotients : (v : ℕ) → (v / 65536 ≡ v / 256 / 256) × (v / 16777216 ≡ v / 256 / 256 / 256)
-quotients v = (
+-- a quotient by two bytes and by three, as nested-quotients by one
+nested-quotients : (v : ℕ) → (v / 65536 ≡ v / 256 / 256) × (v / 16777216 ≡ v / 256 / 256 / 256)
+nested-quotients v = (
   sym (div-div-eq-div-mul v 256 256),
   sym (div-div-eq-div-mul v 256 65536) ∙ sym (div-div-eq-div-mul (v / 256) 256 256),
 )
@@ -49,7 +49,7 @@ unfolding wordBytes firstWord
 first-of-bytes v after h =
     let top : v / 16777216 < 256 = omega arith in
     let high : v / 16777216 % 256 ≡ v / 16777216 = mod-eq-of-lt top in
-    omega (arith, quotients v, high)
+    omega (arith, nested-quotients v, high)
 
 -- the bytes of a word that is put together of four
 module _ (a b c d : ℕ) (ha : a < 256) (hb : b < 256) (hc : c < 256) (hd : d < 256) where

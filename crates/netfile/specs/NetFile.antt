@@ -2,10 +2,10 @@
 use mathlib.Core.Path.{_≡_, refl}
 use mathlib.Core.Bool.{cond}
 use mathlib.Core.List.{List, [], _∷_, _++_}
-use Prim.Native.Nat.{ℕ, suc, _+_, _-_, _*_, _/_, _%_}
+use Prim.Native.Nat.{ℕ, zero, suc, _+_, _-_, _*_, _/_, _%_}
 use lib.Dec.{ltb}
 use lib.IntN.{ℤ, pos, negsuc, _-ℤ_}
-use lib.ListN.{getD, drop}
+use lib.ListN.{getD, take, drop}
 use Rattle.exact.specs.Filling.{runs}
 use Rattle.net.specs.Net.{number, numbers}
 
@@ -103,7 +103,7 @@ fromPoint file n = drop (8 + 12 * n) file
 abbrev pub fileNumbers : List ℕ → List ℤ
 fileNumbers file = runs (points (fileWidth file) (fileHeight file)) (λ n. firstPoint (fromPoint file n))
 
--- ---- worked cases: a height word of 17, both ways; -1 and the limits of 28 bits; the word of y = -2
+-- ---- worked cases: a height word of 17, both ways; -1 and the limits of 28 bits; the word of y = -2; the file of 2 by 3 with the numbers -1 to -54
 
 seventeen : (wordBytes (word heightKind 17) ≡ 32 ∷ 0 ∷ 0 ∷ 17 ∷ []) × (firstWord (32 ∷ 0 ∷ 0 ∷ 17 ∷ 99 ∷ []) ≡ word heightKind 17)
 unfolding wordBytes firstWord
@@ -125,3 +125,21 @@ minus-two = (refl, refl)
 
 two-by-two : (fileSize 2 2 ≡ 156) × (points 2 2 ≡ 12)
 two-by-two = (refl, refl)
+
+abbrev downwards : ℕ → List ℤ
+downwards zero = []
+downwards (suc n) = downwards n ++ negsuc n ∷ []
+
+abbrev twoByThree : List ℕ
+twoByThree = netFile (downwards 54) 2 3
+
+-- width, height and x of the first control point; z of the last and the end
+front-and-end :
+    (take 12 twoByThree ≡ 16 ∷ 0 ∷ 0 ∷ 2 ∷ 32 ∷ 0 ∷ 0 ∷ 3 ∷ 63 ∷ 255 ∷ 255 ∷ 255 ∷ [])
+    × (drop (fileSize 2 3 - 8) twoByThree ≡ 95 ∷ 255 ∷ 255 ∷ 202 ∷ 96 ∷ 0 ∷ 0 ∷ 0 ∷ [])
+unfolding wordBytes pointBytes netFile runs
+front-and-end = (refl, refl)
+
+found-again : (fileWidth twoByThree ≡ 2) × (fileHeight twoByThree ≡ 3) × (fileNumbers twoByThree ≡ downwards 54)
+unfolding wordBytes firstWord pointBytes netFile firstPoint runs
+found-again = (refl, refl, refl)

@@ -1,5 +1,4 @@
-// Words in bytes: a word's two parts, its bytes, high byte first, and two's complement in 28 bits. For the reader and the writer, which are seen to
-// meet what these functions ask.
+// Words in bytes: a word's two parts, its bytes, high byte first, and two's complement in 28 bits.
 ghost use mathlib.Core.Path.{_≡_};
 ghost use mathlib.Core.List.{[], _∷_};
 ghost use Prim.Native.Nat.{_+_, _≤_, _<_};
@@ -60,7 +59,8 @@ pub fn parse_word(left: &[u8], kind: u32) -> Parsed
     }
 }
 
-// The number of a payload. What is at least half of 2^28 comes round to below half of it, and then below zero.
+// The number of a payload. What is at least half of 2^28 comes round to below half of it, and then below zero. For the reader, which takes the payload
+// from a word.
 pub fn signed_number(p: u32) -> i32
     requires { ⌜ p < 268435456 ⌝ }
     ensures { λ r. ⌜ r ≡ signed p ⌝ }
@@ -69,7 +69,7 @@ pub fn signed_number(p: u32) -> i32
     raised as i32 - 134217728
 }
 
-// The number in the first word.
+// The number in the first word. For the reader, which has found that the word is there.
 pub fn first_number(bytes: &[u8]) -> i32
     requires { ⌜ 4 ≤ length (now bytes) ⌝ }
     ensures { λ r. ⌜ r ≡ firstNumber (now (bytes .entry)) ⌝ }
@@ -97,7 +97,7 @@ fn store_low_first(v: u32, at: usize, out: &mut [u8])
     out[at + 3] = (v / 16777216) as u8;
 }
 
-// The bytes of a word, stored from a place on.
+// The bytes of a word, stored from a place on. For the writer, which has refused every output that is too short.
 pub fn store_word(kind: u32, payload: u32, at: usize, out: &mut [u8])
     requires { ⌜ (kind < 16) × (payload < 268435456) × (at + 4 ≤ length (now out)) ⌝ }
     ensures { λ r. ⌜ now (out .exit) ≡ sets (now (out .entry)) at (wordBytes (word kind payload)) ⌝ }
@@ -106,7 +106,7 @@ pub fn store_word(kind: u32, payload: u32, at: usize, out: &mut [u8])
     store_low_first(turn(v), at, out);
 }
 
-// The bytes of a number's word, stored from a place on.
+// The bytes of a number's word, stored from a place on. For the writer, which has refused every number beyond its range too.
 pub fn store_number(kind: u32, z: i32, at: usize, out: &mut [u8])
     requires { ⌜ (kind < 16) × (natAbs z ≤ 16777216) × (at + 4 ≤ length (now out)) ⌝ }
     ensures { λ r. ⌜ now (out .exit) ≡ sets (now (out .entry)) at (numberBytes kind z) ⌝ }
