@@ -21,8 +21,9 @@ use Rattle.netfile.specs.NetFile.{word, kindOf, payloadOf, widthKind, he
 use Rattle.netfile.specs.TurnedAway.{wordFaults, numberFaults, pointFaults, endFaults, headFaults, bodyFaults, readRefusal, shortFor, writeFaults, writeRefusal, noRoom}
 use Rattle.netfile.specs.Answers.{readNet}
 use Rattle.netfile.specs.Promises.{AllBytes, Writable, Readable, WritesBack, OneLength}
-use Rattle.netfile.proofs.WordLaws.{payload-small, word-of-parts, bytes-of-first, complement-signed}
-use Rattle.netfile.proofs.ReadLaws.{read-parts, GoodHead, good-head, points-there}
+use Rattle.netfile.proofs.WordLaws.{payload-small, word-of-parts, bytes-of-first, same-first, complement-signed}
+use Rattle.netfile.proofs.Parsing.{point-parts}
+use Rattle.netfile.proofs.ReadLaws.{read-parts, head-there, GoodHead, good-head, points-there}
 
 -- ---- what it is known by
 
@@ -43,7 +44,7 @@ module _ (file : List ℕ) (short : Bool) (taken : readRefusal file short ≡ 0)
   after-head = clear-parts (runs count (λ i. pointFaults (fromPoint file i))) (endFaults (fromPoint file count)) (parts .1)
 
   sides-there : 8 ≤ length file
-  sides-there = omega (arith, ltb-false (length (drop 4 file)) 4 (parts .0 .1 .1 .1 .0), length-drop 4 file)
+  sides-there = head-there file short (parts .0)
 
   body-there : 8 + 12 * count ≤ length file
   body-there = points-there file count sides-there (after-head .0)
@@ -61,22 +62,16 @@ module _ (file : List ℕ) (short : Bool) (taken : readRefusal file short ≡ 0)
 -- ---- its length is the only one
 
 -- a longer file has the same sides
-first-same : (l more : List ℕ) → 4 ≤ length l → firstWord (l ++ more) ≡ firstWord l
-unfolding firstWord
-first-same l more k =
-    let a = List·getD-append l more 0 0 (omega arith) in
-    let b = List·getD-append l more 0 1 (omega arith) in
-    let c = List·getD-append l more 0 2 (omega arith) in
-    let d = List·getD-append l more 0 3 (omega arith) in
-    λ t. a t * 16777216 + b t * 65536 + c t * 256 + d t
+first-of-longer : (l more : List ℕ) → 4 ≤ length l → firstWord (l ++ more) ≡ firstWord l
+first-of-longer l more k = same-first (l ++ more) l (λ i h. List·getD-append l more 0 i (omega (arith, h, k)))
 
 longer : (file more : List ℕ) (short other : Bool) → readRefusal file short ≡ 0 → readRefusal (file ++ more) other ≡ 0 → length more ≡ 0
 longer file more short other e f =
     let there = sides-there file short e in
-    let width : fileWidth (file ++ more) ≡ fileWidth file = ap payloadOf (first-same file more (omega (arith, there))) in
+    let width : fileWidth (file ++ more) ≡ fileWidth file = ap payloadOf (first-of-longer file more (omega (arith, there))) in
     let height : fileHeight (file ++ more) ≡ fileHeight file =
     ap (λ (l : List ℕ). payloadOf (firstWord l)) (drop-append-le 4 file more (omega (arith, there)))
-    ∙ ap payloadOf (first-same (drop 4 file) more (omega (arith, there, length-drop 4 file))) in
+    ∙ ap payloadOf (first-of-longer (drop 4 file) more (omega (arith, there, length-drop 4 file))) in
     let same : fileSize (fileWidth (file ++ more)) (fileHeight (file ++ more)) ≡ fileSize (fileWidth file) (fileHeight file) = λ t. fileSize (width t) (height t) in
     omega (arith, whole-length file short e, whole-length (file ++ more) other f, same, length-append file more)
 
@@ -110,10 +105,7 @@ module _ (left : List ℕ) (small : AllBytes left) where
 -- three words of a control point
 module _ (left : List ℕ) (k : Clear (pointFaults left)) where
   three : Clear (numberFaults left xKind) × Clear (numberFaults (drop 4 left) yKind) × Clear (numberFaults (drop 8 left) zKind)
-  three =
-      let q = clear-parts (numberFaults left xKind ++ numberFaults (drop 4 left) yKind) (numberFaults (drop 8 left) zKind) k in
-      let p = clear-parts (numberFaults left xKind) (numberFaults (drop 4 left) yKind) (q .0) in
-      (p .0, p .1, q .1)
+  three = point-parts left k
 
   point-back : AllBytes left →
       numberBytes xKind (firstNumber left) ++ numberBytes yKind (firstNumber (drop 4 left)) ++ numberBytes zKind (firstNumber (drop 8 left)) ≡ take 12 left

@@ -2,7 +2,7 @@
 use mathlib.Core.Path.{_≡_, sym, ap, _∙_}
 use mathlib.Core.Bool.{not}
 use mathlib.Core.List.{List, [], _∷_, _++_}
-use Prim.Native.Nat.{ℕ, _+_, _-_, _*_, _≤_, _<_}
+use Prim.Native.Nat.{ℕ, _+_, _-_, _*_, _≤_}
 use native.Mathlib.Omega.{arith}
 use lib.Dec.{eqb, lit≤, lit<}
 use lib.ListN.{length-take, length, getD, take, drop, length-drop}
@@ -13,6 +13,7 @@ use Rattle.net.proofs.Faults.{Clear, Numbered, none-clear, clear-parts, numbere
 use Rattle.netfile.specs.NetFile.{kindOf, payloadOf, signed, firstWord, xKind, yKind, zKind, fromPoint}
 use Rattle.netfile.specs.TurnedAway.{wordFaults, sideFaults, numberFaults, pointFaults}
 use Rattle.netfile.specs.Answers.{answer}
+use Rattle.netfile.proofs.WordLaws.{same-first}
 
 -- ---- an answer that was matched
 
@@ -24,11 +25,11 @@ module _ (fs : List Fault) where
       (none-clear fs k (q .0), ap (λ (l : List ℕ). getD l 0 0) (q .1))
 
   -- the first fault is there, whatever comes after
-  pub refused : (gs : List Fault) (v : ℕ) {n : ℕ} → _≡_ {A = ℕ × List ℕ} (n, []) (answer (firstFault fs) (v ∷ [])) →
+  pub refused : (gs : List Fault) (v : ℕ) (values : List ℕ) {n : ℕ} → _≡_ {A = ℕ × List ℕ} (n, []) (answer (firstFault fs) (v ∷ values)) →
       (n ≡ firstFault (fs ++ gs)) × (n ≡ 0 → ⊥)
-  refused gs v {n} e =
+  refused gs v values {n} e =
       let told : n ≡ firstFault fs = λ t. e t .0 in
-      let there = not-accepted (firstFault fs) (v ∷ []) (lit< tt) e in
+      let there = not-accepted (firstFault fs) (v ∷ values) (omega arith) e in
       (told ∙ fault-before fs gs there, λ z. there (sym told ∙ z))
 
   -- ---- a refusal number
@@ -56,11 +57,15 @@ point-numbered left =
     (numbered-append (numberFaults (drop 4 left) yKind) (numberFaults (drop 8 left) zKind) (number-numbered (drop 4 left) yKind) (number-numbered (drop 8 left) zKind))
 
 -- the three words of a control point are there
+pub point-parts : (left : List ℕ) → Clear (pointFaults left) →
+    Clear (numberFaults left xKind) × Clear (numberFaults (drop 4 left) yKind) × Clear (numberFaults (drop 8 left) zKind)
+point-parts left k =
+    let q = clear-parts (numberFaults left xKind ++ numberFaults (drop 4 left) yKind) (numberFaults (drop 8 left) zKind) k in
+    let p = clear-parts (numberFaults left xKind) (numberFaults (drop 4 left) yKind) (q .0) in
+    (p .0, p .1, q .1)
+
 pub point-long : (left : List ℕ) → Clear (pointFaults left) → 12 ≤ length left
-point-long left k =
-    let y = clear-parts (numberFaults left xKind) (numberFaults (drop 4 left) yKind ++ numberFaults (drop 8 left) zKind) k .1 in
-    let z = clear-parts (numberFaults (drop 4 left) yKind) (numberFaults (drop 8 left) zKind) y .1 in
-    omega (arith, ltb-false (length (drop 8 left)) 4 (z .0), length-drop 8 left)
+point-long left k = omega (arith, ltb-false (length (drop 8 left)) 4 (point-parts left k .2 .0), length-drop 8 left)
 
 -- and so the next one begins within the file
 pub next-begins : (file : List ℕ) (i : ℕ) → Clear (pointFaults (fromPoint file i)) → 8 + 12 * (i + 1) ≤ length file
@@ -74,11 +79,9 @@ part-from l n = take-all (length l - n) (drop n l) (omega (arith, length-drop n 
 
 -- a word lies in the twelve bytes
 word-within : (left : List ℕ) (n k : ℕ) → k + 4 ≤ n → firstWord (drop k (take n left)) ≡ firstWord (drop k left)
-unfolding firstWord
-word-within left n k h = λ t. byte 0 (lit< tt) t * 16777216 + byte 1 (lit< tt) t * 65536 + byte 2 (lit< tt) t * 256 + byte 3 (lit< tt) t
-  where
-    byte : (i : ℕ) → i < 4 → getD (drop k (take n left)) i 0 ≡ getD (drop k left) i 0
-    byte i l = getD-drop k (take n left) i 0 ∙ getD-take n left (k + i) 0 (omega arith) ∙ sym (getD-drop k left i 0)
+word-within left n k h =
+    same-first (drop k (take n left)) (drop k left)
+    (λ i l. getD-drop k (take n left) i 0 ∙ getD-take n left (k + i) 0 (omega (arith, h, l)) ∙ sym (getD-drop k left i 0))
 
 -- a number's faults are those of its word
 number-same : (l m : List ℕ) (kind : ℕ) → 4 ≤ length l → 4 ≤ length m → firstWord l ≡ firstWord m → numberFaults l kind ≡ numberFaults m kind

@@ -11,11 +11,11 @@ use borrow.Author.Tests.{ltb-false}
 use Rattle.exact.specs.Filling.{over, runs}
 use Rattle.net.specs.Net.{numbers}
 use Rattle.net.specs.TurnedAway.{firstFault, badSide, badSize}
-use Rattle.net.proofs.Faults.{Clear, Numbered, none-clear, clear-parts, clear-run, fault-before, fault-after, numbered-append, numbered-runs, answered, not-accepted, accepted-answer, refused-answer, when-accepted, when-refused, or-no, or-none}
+use Rattle.net.proofs.Faults.{Clear, Numbered, none-clear, clear-parts, clear-run, fault-after, numbered-append, numbered-runs, answered, accepted-answer, refused-answer, when-accepted, when-refused, or-no, or-none}
 use Rattle.netfile.specs.NetFile.{points, fileWidth, fileHeight, fileNumbers, fromPoint}
 use Rattle.netfile.specs.TurnedAway.{pointFaults, endFaults, headFaults, bodyFaults, readFaults, readRefusal, shortFor}
 use Rattle.netfile.specs.Answers.{headAnswer, readAnswerWith, readNetWith}
-use Rattle.netfile.proofs.Parsing.{point-numbered, next-begins}
+use Rattle.netfile.proofs.Parsing.{refused, point-numbered, next-begins}
 
 -- ---- the faults have numbers
 
@@ -45,6 +45,9 @@ read-fits file short none = read-parts file short none .0 .1 .1 .1 .1 .1 .1 .0
 
 -- ---- the words that are there
 
+pub head-there : (file : List ℕ) (short : Bool) → Clear (headFaults file short) → 8 ≤ length file
+head-there file short k = omega (arith, ltb-false (length (drop 4 file)) 4 (k .1 .1 .1 .0), length-drop 4 file)
+
 -- two sides in their range, and room for their numbers
 pub record GoodHead (file : List ℕ) (room : ℕ) : Type 0 where
   pub there : 8 ≤ length file
@@ -54,7 +57,7 @@ pub record GoodHead (file : List ℕ) (room : ℕ) : Type 0 where
 pub good-head : (file : List ℕ) (other : Bool) (room : ℕ) → Clear (headFaults file (other || shortFor file room)) → GoodHead file room
 good-head file other room k =
     record {
-      there = omega (arith, ltb-false (length (drop 4 file)) 4 (k .1 .1 .1 .0), length-drop 4 file);
+      there = head-there file (other || shortFor file room) k;
       size = sym (or-no (badSide (fileWidth file)) (badSide (fileHeight file)) (k .1 .1 .0) (sym (k .1 .1 .1 .1 .1 .0)));
       room-enough = ltb-false room (numbers (fileWidth file) (fileHeight file)) (or-none other (shortFor file room) (k .1 .1 .1 .1 .1 .1 .0) .1);
     }
@@ -92,10 +95,9 @@ module _ (file : List ℕ) (short : Bool) (net : List ℤ) where
   -- or refused
   pub head-refused : {n : ℕ} → _≡_ {A = ℕ × List ℕ} (n, []) (headAnswer file short) →
       (_≡_ {A = ℕ × List ℕ} (n, []) (readAnswerWith file short)) × (net ≡ readNetWith file short net)
-  head-refused {n} e =
-      let told : n ≡ firstFault (headFaults file short) = λ t. e t .0 in
-      let there = not-accepted (firstFault (headFaults file short)) sides (lit< tt) e in
-      turned-away (told ∙ fault-before (headFaults file short) (bodyFaults file body) there) (λ z. there (sym told ∙ z))
+  head-refused e =
+      let q = refused (headFaults file short) (bodyFaults file body) (fileWidth file) (fileHeight file ∷ []) e in
+      turned-away (q .0) (q .1)
 
   -- the rest was refused
   pub body-refused : {n : ℕ} → Clear (headFaults file short) → n ≡ firstFault (bodyFaults file body) → (n ≡ 0 → ⊥) →

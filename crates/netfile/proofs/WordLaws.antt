@@ -6,7 +6,7 @@ use native.Mathlib.Nat.{div-div-eq-div-mul, mod-eq-of-lt}
 use native.Mathlib.Decide.{decLt}
 use native.Mathlib.Omega.{arith}
 use lib.Arith.{digits-div, digits-mod}
-use lib.Dec.{T, ltb}
+use lib.Dec.{T, ltb, lit<}
 use lib.Signed.{nonNeg}
 use lib.IntN.{ℤ, pos, negsuc, natAbs, _+ℤ_, _-ℤ_}
 use lib.ListN.{length, getD, take}
@@ -81,6 +81,11 @@ bytes-of-first bytes long small =
     let third = byte-c a b c d (small 0) (small 1) (small 2) (small 3) in
     let fourth = byte-d a b c d (small 0) (small 1) (small 2) (small 3) in
     (λ t. first t ∷ second t ∷ third t ∷ fourth t ∷ []) ∙ runs-of-list 0 bytes 4 long
+
+-- a word is told by its four bytes
+pub same-first : (l m : List ℕ) → ((i : ℕ) → i < 4 → getD l i 0 ≡ getD m i 0) → firstWord l ≡ firstWord m
+unfolding firstWord
+same-first l m byte = λ t. byte 0 (lit< tt) t * 16777216 + byte 1 (lit< tt) t * 65536 + byte 2 (lit< tt) t * 256 + byte 3 (lit< tt) t
 
 -- ---- bytes the other way round
 

@@ -63,7 +63,7 @@ returns-4 : tie.Need-returns-4
 returns-4 c =
     let left = c .before .before .before .before .before .args .left .now in
     let e = sym (ap wordTold (c .before .parsed2 .given .1)) ∙ c .before .before .before .parse-word .ensures in
-    refused (wordFaults left endKind) (atEnd left) (payloadOf (firstWord left)) e .0
+    refused (wordFaults left endKind) (atEnd left) (payloadOf (firstWord left)) [] e .0
 
 pub end-refusal-spec : {M : Type 1} → statement M
 end-refusal-spec =

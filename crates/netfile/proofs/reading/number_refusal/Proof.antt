@@ -70,7 +70,7 @@ returns-3 c =
     let left = c .before .before .before .before .before .args .left .now in
     let kind = c .before .before .before .before .before .args .kind in
     let e = sym (ap wordTold (c .before .parsed2 .given .1)) ∙ c .before .before .before .parse-word .ensures in
-    refused (wordFaults left kind) ((beyond (firstNumber left), 3) ∷ []) (payloadOf (firstWord left)) e .0
+    refused (wordFaults left kind) ((beyond (firstNumber left), 3) ∷ []) (payloadOf (firstWord left)) [] e .0
 
 pub number-refusal-spec : {M : Type 1} → statement M
 number-refusal-spec =

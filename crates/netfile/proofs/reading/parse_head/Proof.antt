@@ -108,7 +108,7 @@ returns-2 c =
     let other = k .before .before .before .before .before .args .short in
     let l = file k in
     let e = sym (ap wordTold (c .before .height2 .given .1)) ∙ told l (c .before .before .before .parse-side2 .ensures) in
-    let q = refused (sideFaults (drop 4 l) heightKind) ((other || shortFor l room, 5) ∷ []) (fileHeight l) e in
+    let q = refused (sideFaults (drop 4 l) heightKind) ((other || shortFor l room, 5) ∷ []) (fileHeight l) [] e in
     refused-answer (firstFault (headFaults l (other || shortFor l room))) (fileWidth l ∷ fileHeight l ∷ [])
     (q .0 ∙ fault-after (sideFaults l widthKind) (sideFaults (drop 4 l) heightKind ++ (other || shortFor l room, 5) ∷ []) (w .0)) (q .1)
 
@@ -118,7 +118,7 @@ returns-3 c =
     let room = c .before .before .before .before .before .args .room in
     let other = c .before .before .before .before .before .args .short in
     let e = sym (ap wordTold (c .before .width2 .given .1)) ∙ c .before .before .before .parse-side .ensures in
-    let q = refused (sideFaults l widthKind) (sideFaults (drop 4 l) heightKind ++ (other || shortFor l room, 5) ∷ []) (fileWidth l) e in
+    let q = refused (sideFaults l widthKind) (sideFaults (drop 4 l) heightKind ++ (other || shortFor l room, 5) ∷ []) (fileWidth l) [] e in
     refused-answer (firstFault (headFaults l (other || shortFor l room))) (fileWidth l ∷ fileHeight l ∷ []) (q .0) (q .1)
 
 pub parse-head-spec : {M : Type 1} → statement M

@@ -67,7 +67,7 @@ returns-3 c =
     let kind = c .before .before .before .before .before .args .kind in
     let v = payloadOf (firstWord left) in
     let e = sym (ap wordTold (c .before .parsed2 .given .1)) ∙ c .before .before .before .parse-word .ensures in
-    let q = refused (wordFaults left kind) ((badSide v, 1) ∷ []) v e in
+    let q = refused (wordFaults left kind) ((badSide v, 1) ∷ []) v [] e in
     refused-answer (firstFault (sideFaults left kind)) (v ∷ []) (q .0) (q .1)
 
 pub parse-side-spec : {M : Type 1} → statement M
