@@ -1,18 +1,32 @@
 //! Times the library `ups` and the same computation in plain Rust on the same inputs.
+//!
+//! A line gives the kernel's time, then each other version's and the kernel's over it, all
+//! medians of one run:
+//! - `surface point`, `Bézier net`: one call at a random place or triangle of a net of 17 by 17.
+//! - `refine`: 17 by 17 by six steps to 1,025 by 1,025, 9.5 million numbers. `table` is plain Rust
+//!   with the weight table, `kinds` is Rust written out for each kind of vertex, `copy` copies
+//!   the refined net.
+//! - `write`, `read`: the file of a net of 1,025 by 1,025; `copy` copies the file's bytes.
 
 mod plain;
 mod plain_file;
+mod plain_refine;
 // Not every function of the library is timed.
 #[allow(dead_code)]
 #[path = "../../tests/src/raw.rs"]
 mod raw;
 
+use plain::Refusal;
+use plain_refine::{numbers, refined, Size};
+use std::cell::RefCell;
 use std::hint::black_box;
 use std::time::Instant;
 
 const SIDE: usize = 17;
 /// Both sides of the net that is written to a file and read back.
 const FILE_SIDE: usize = 1025;
+/// Steps of refining.
+const STEPS: usize = 6;
 const CALLS: usize = 4096;
 const ROUNDS: usize = 61;
 /// Passes over the list of inputs in one round, so that a round lasts some milliseconds.
@@ -155,11 +169,14 @@ fn bezier_net<'a>(net: &'a [i32], random: &mut Random) -> Subject<'a> {
     }
 }
 
-/// The times of the kernel, of plain Rust and of a copy of the file's bytes.
-fn print_file_times(name: &str, times: [f64; 3]) {
-    let [kernel, plain, copy] = times.map(|time| time / 1e6);
-    let (ratio, over_copy) = (kernel / plain, kernel / copy);
-    println!("{name:<16}{kernel:>10.2}{plain:>10.2}{ratio:>8.2}{copy:>10.2}{over_copy:>8.2}");
+/// The kernel's time, and each other version's with the kernel's over it, in milliseconds.
+fn print_times(name: &str, times: &[f64]) {
+    let kernel = times[0];
+    print!("{name:<16}{:>10.2}", kernel / 1e6);
+    for other in &times[1..] {
+        print!("{:>10.2}{:>8.2}", other / 1e6, kernel / other);
+    }
+    println!();
 }
 
 /// Memory whose pages are all in use, so that no page is brought in while it is timed.
@@ -200,7 +217,7 @@ fn write_file(net: &[i32]) -> Vec<u8> {
     });
     let times = medians("write", 1, [kernel, plain, copy(len)]);
     assert!(out == same, "the bytes differ");
-    print_file_times("write", times);
+    print_times("write", &times);
     out
 }
 
@@ -227,7 +244,60 @@ fn read_file(file: &[u8], net: &[i32]) {
     });
     let times = medians("read", 1, [kernel, plain, copy(file.len())]);
     assert!(out == net && same == net, "the nets differ");
-    print_file_times("read", times);
+    print_times("read", &times);
+}
+
+/// A version of refining, in the form of the plain ones.
+type Refine = fn(&[i32], Size, usize, &mut [i32], &mut [i32]) -> Result<(), Refusal>;
+
+fn kernel_refine(
+    net: &[i32],
+    (w, h): Size,
+    k: usize,
+    out: &mut [i32],
+    scratch: &mut [i32],
+) -> Result<(), Refusal> {
+    let (at, len) = (net.as_ptr(), net.len());
+    let (to, to_len) = (out.as_mut_ptr(), out.len());
+    let (by, by_len) = (scratch.as_mut_ptr(), scratch.len());
+    // SAFETY: the lengths are those of the net, the output and the scratch.
+    match unsafe { raw::ups_refine(at, len, w, h, k, to, to_len, by, by_len) } {
+        0 => Ok(()),
+        refusal => Err(refusal),
+    }
+}
+
+/// Refines the net in each version, all with the same output and scratch.
+fn refine(net: &[i32]) {
+    let size = (SIDE, SIDE);
+    let len = numbers(refined(size, STEPS));
+    let scratch_len = numbers(refined(size, STEPS - 1));
+    let versions: [Refine; 3] = [kernel_refine, plain_refine::by_table, plain_refine::by_kind];
+    let results = versions.map(|version| {
+        let mut out = touched(len);
+        let answer = version(net, size, STEPS, &mut out, &mut touched(scratch_len));
+        assert_eq!(answer, Ok(()));
+        out
+    });
+    let [first, rest @ ..] = &results;
+    assert!(rest.iter().all(|out| out == first), "the nets differ");
+
+    let lent = &RefCell::new((touched(len), touched(scratch_len)));
+    let [kernel, table, kinds] = versions.map(|version| -> Pass {
+        Box::new(move || {
+            let (out, scratch) = &mut *lent.borrow_mut();
+            let answer = version(black_box(net), size, STEPS, out, scratch);
+            assert_eq!(answer, Ok(()));
+            i64::from(black_box(out)[len - 1])
+        })
+    });
+    let copy = Box::new(|| {
+        let (out, _) = &mut *lent.borrow_mut();
+        out.copy_from_slice(black_box(first));
+        i64::from(black_box(out)[len - 1])
+    });
+    let times = medians("refine", 1, [kernel, table, kinds, copy]);
+    print_times("refine", &times);
 }
 
 fn random_net(random: &mut Random, side: usize) -> Vec<i32> {
@@ -251,6 +321,11 @@ fn main() {
     for subject in subjects {
         subject.measure();
     }
+    println!(
+        "\n{:<16}{:>10}{:>10}{:>8}{:>10}{:>8}{:>10}{:>8}",
+        "ms per net", "kernel", "table", "ratio", "kinds", "ratio", "copy", "ratio"
+    );
+    refine(&net);
     println!(
         "\n{:<16}{:>10}{:>10}{:>8}{:>10}{:>8}",
         "ms per file", "kernel", "plain", "ratio", "copy", "ratio"

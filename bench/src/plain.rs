@@ -224,6 +224,6 @@ fn descending(shares: [usize; 3]) -> (usize, usize, usize) {
 }
 
 /// The nearest whole number, halves upwards; the divisor is even.
-fn rounded(dividend: i64, divisor: i64) -> i64 {
+pub fn rounded(dividend: i64, divisor: i64) -> i64 {
     (dividend + divisor / 2).div_euclid(divisor)
 }

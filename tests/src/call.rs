@@ -1,22 +1,68 @@
 //! A call described as data, so that faults can be put into it one by one and the library and
 //! the oracle get the same question.
 
-use crate::kernel::{LentFile, LentNet};
+use crate::kernel::{LentFile, LentNet, RefinedPoint, Room};
 use crate::netfile::{self, FileNet};
-use crate::oracle::{self, Faults};
+use crate::oracle::{self, Faults, POINT_NUMBERS};
+use crate::refinement;
 use std::fmt;
 
 #[derive(Clone, Copy, Debug, PartialEq, Eq)]
 pub enum Ask {
-    Vertex { i: usize, j: usize },
-    Bezier { i: usize, j: usize, down: u32 },
-    Surface { p: usize, q: usize },
-    View { p: usize, q: usize },
-    Write { written_len: usize },
+    Vertex {
+        i: usize,
+        j: usize,
+    },
+    Bezier {
+        i: usize,
+        j: usize,
+        down: u32,
+    },
+    Surface {
+        p: usize,
+        q: usize,
+    },
+    View {
+        p: usize,
+        q: usize,
+    },
+    Write {
+        written_len: usize,
+    },
+    Refine {
+        k: usize,
+        scratch_len: usize,
+    },
+    RefinedPoint {
+        k: usize,
+        p: usize,
+        q: usize,
+        scratch_len: usize,
+        point_len: usize,
+    },
+}
+
+impl Ask {
+    /// With the scratch that k steps need, up to `MOST`.
+    pub fn refine(size: (usize, usize), k: usize) -> Self {
+        let scratch_len = lent_len(refinement::scratch_len(size, k));
+        Ask::Refine { k, scratch_len }
+    }
+
+    /// With the scratch that k steps need, up to `MOST`.
+    pub fn refined_point(size: (usize, usize), k: usize, (p, q): (usize, usize)) -> Self {
+        Ask::RefinedPoint {
+            k,
+            p,
+            q,
+            scratch_len: lent_len(refinement::scratch_len(size, k)),
+            point_len: POINT_NUMBERS,
+        }
+    }
 }
 
 /// Each call; those that name a vertex, a triangle or a place on the first up triangle.
-pub const ASKS: [Ask; 5] = [
+pub const ASKS: [Ask; 7] = [
     Ask::Vertex { i: 0, j: 0 },
     Ask::Bezier {
         i: 0,
@@ -26,11 +72,26 @@ pub const ASKS: [Ask; 5] = [
     Ask::Surface { p: 300, q: 200 },
     Ask::View { p: 300, q: 200 },
     Ask::Write { written_len: 1 },
+    Ask::Refine {
+        k: 0,
+        scratch_len: 0,
+    },
+    Ask::RefinedPoint {
+        k: 0,
+        p: 300,
+        q: 200,
+        scratch_len: 0,
+        point_len: POINT_NUMBERS,
+    },
 ];
 
-/// The most bytes that `Call::new` lends, since sizes may be far too great. A file of 1,026 by 4
-/// has fewer.
-const MOST_BYTES: usize = 1 << 18;
+/// The most bytes or numbers that `Call::new` lends, since sizes may be far too great. A file of
+/// 1,026 by 4 has fewer.
+const MOST: usize = 1 << 18;
+
+fn lent_len(needed: Option<usize>) -> usize {
+    needed.map_or(0, |len| len.min(MOST))
+}
 
 #[derive(Clone)]
 pub struct Call {
@@ -48,6 +109,7 @@ pub enum Answer {
     Numbers(Vec<i32>),
     Bytes(Vec<u8>),
     DoubleBits(Vec<u64>),
+    Refined(RefinedPoint),
 }
 
 // The net itself would be too long in a message.
@@ -60,13 +122,16 @@ impl fmt::Debug for Call {
 }
 
 impl Call {
-    /// A call on the whole net with an output as long as the result, up to `MOST_BYTES`.
+    /// A call on the whole net with an output as long as the result, up to `MOST`.
     pub fn new(net: &[i32], (w, h): (usize, usize), ask: Ask) -> Self {
         let out_len = match ask {
             Ask::Vertex { .. } => 0,
             Ask::Bezier { .. } => oracle::BEZIER_NUMBERS,
-            Ask::Surface { .. } | Ask::View { .. } => oracle::POINT_NUMBERS,
-            Ask::Write { .. } => netfile::file_len(w, h).map_or(0, |len| len.min(MOST_BYTES)),
+            Ask::Surface { .. } | Ask::View { .. } => POINT_NUMBERS,
+            Ask::Write { .. } => lent_len(netfile::file_len(w, h)),
+            Ask::Refine { k, .. } | Ask::RefinedPoint { k, .. } => {
+                lent_len(refinement::refined_len((w, h), k))
+            }
         };
         let net = net.to_vec();
         Call {
@@ -92,6 +157,24 @@ impl Call {
             Ask::Write { written_len } => {
                 netfile::write_faults(net, size, self.out_len, written_len)
             }
+            Ask::Refine { k, scratch_len } => {
+                refinement::refine_faults(net, size, k, self.out_len, scratch_len)
+            }
+            Ask::RefinedPoint {
+                k,
+                p,
+                q,
+                scratch_len,
+                point_len,
+            } => refinement::refined_point_faults(
+                net,
+                size,
+                k,
+                (p, q),
+                self.out_len,
+                scratch_len,
+                point_len,
+            ),
         }
     }
 
@@ -112,7 +195,19 @@ impl Call {
             Ask::Write { written_len } => {
                 bytes_answer(netfile::write(net, size, self.out_len, written_len))
             }
+            Ask::Refine { k, .. } => list_answer(self.refined(k)),
+            Ask::RefinedPoint { k, p, q, .. } => refined_answer(self.refined(k).map(|refined| {
+                let size = refinement::refined_size(size, k).expect("accepted");
+                let point = refinement::point_of(&refined, size, (p, q));
+                (refined, point)
+            })),
         }
+    }
+
+    /// The net after k steps, unless the call is refused.
+    fn refined(&self, k: usize) -> Result<Vec<i32>, u32> {
+        oracle::accepted(&self.faults())?;
+        Ok(refinement::refined(&self.net, (self.w, self.h), k))
     }
 
     pub fn of_kernel(&self, net: &LentNet) -> Answer {
@@ -125,6 +220,20 @@ impl Call {
             Ask::Surface { p, q } => numbers_answer(net.surface_point(size, (p, q), self.out_len)),
             Ask::View { p, q } => bits_answer(net.view_point(size, (p, q), self.out_len)),
             Ask::Write { written_len } => bytes_answer(net.write(size, self.out_len, written_len)),
+            Ask::Refine { k, scratch_len } => {
+                let room = Room::new(self.out_len, scratch_len);
+                list_answer(net.refine(size, k, room))
+            }
+            Ask::RefinedPoint {
+                k,
+                p,
+                q,
+                scratch_len,
+                point_len,
+            } => {
+                let room = Room::new(self.out_len, scratch_len);
+                refined_answer(net.refined_point(size, k, (p, q), room, point_len))
+            }
         }
     }
 
@@ -153,8 +262,19 @@ fn vertex_answer(refusal: u32) -> Answer {
 }
 
 fn numbers_answer<const N: usize>(answer: Result<[i32; N], u32>) -> Answer {
+    list_answer(answer.map(|numbers| numbers.to_vec()))
+}
+
+fn list_answer(answer: Result<Vec<i32>, u32>) -> Answer {
     match answer {
-        Ok(numbers) => Answer::Numbers(numbers.to_vec()),
+        Ok(numbers) => Answer::Numbers(numbers),
+        Err(number) => Answer::Refused(number),
+    }
+}
+
+fn refined_answer(answer: Result<RefinedPoint, u32>) -> Answer {
+    match answer {
+        Ok(refined) => Answer::Refined(refined),
         Err(number) => Answer::Refused(number),
     }
 }

@@ -2,13 +2,15 @@
 //!
 //! Every lent slice lies between canary values. After each call the wrappers assert that the
 //! canaries and the net or file are unchanged, that a refusal left every output unchanged bit
-//! for bit, and that an accepted call left everything behind its result unchanged.
+//! for bit, and that an accepted call left everything behind its result, and behind what is free
+//! of a scratch, unchanged.
 
 use crate::netfile::FileNet;
 use crate::oracle::{BEZIER_NUMBERS, POINT_NUMBERS};
 use crate::pages::{Pages, Side};
 use crate::random::mix;
 use crate::raw;
+use crate::refinement;
 use std::cell::RefCell;
 
 /// Canary values on each side of a lent slice.
@@ -61,17 +63,27 @@ impl Number for f64 {
     }
 }
 
-/// A lent output, filled with canary values as well.
+/// What lies at each position of a lent output and of its guards before the call.
+pub type Junk<T> = fn(usize) -> T;
+
+/// A lent output.
 struct Output<T> {
     memory: Vec<T>,
     len: usize,
+    junk: Junk<T>,
 }
 
 impl<T: Number> Output<T> {
+    /// Filled with canary values as well.
     fn new(len: usize) -> Self {
+        Self::over(len, T::canary)
+    }
+
+    fn over(len: usize, junk: Junk<T>) -> Self {
         Output {
-            memory: (0..len + 2 * GUARD).map(T::canary).collect(),
+            memory: (0..len + 2 * GUARD).map(junk).collect(),
             len,
+            junk,
         }
     }
 
@@ -85,7 +97,7 @@ impl<T: Number> Output<T> {
         assert!(written <= self.len, "accepted with a short output");
         let result = GUARD..GUARD + written;
         for (position, x) in self.memory.iter().enumerate() {
-            if !result.contains(&position) && x.bits() != T::canary(position).bits() {
+            if !result.contains(&position) && x.bits() != (self.junk)(position).bits() {
                 let at = position as i64 - GUARD as i64;
                 panic!("refusal {refusal}: output position {at} changed");
             }
@@ -101,6 +113,61 @@ impl<T: Number> Output<T> {
         Ok(std::array::from_fn(|n| front[n]))
     }
 }
+
+/// The lengths of `out` and of the scratch lent to a refinement, and what lies there before.
+#[derive(Clone, Copy, Debug)]
+pub struct Room {
+    pub out_len: usize,
+    pub scratch_len: usize,
+    pub junk: Junk<i32>,
+}
+
+impl Room {
+    pub fn new(out_len: usize, scratch_len: usize) -> Self {
+        Room {
+            out_len,
+            scratch_len,
+            junk: i32::canary,
+        }
+    }
+
+    /// As long as k steps need, and longer by `extra`.
+    pub fn of_steps(size: (usize, usize), k: usize, extra: usize) -> Self {
+        let out_len = refinement::refined_len(size, k).expect("a length");
+        let scratch_len = refinement::scratch_len(size, k).expect("a length");
+        Room::new(out_len + extra, scratch_len + extra)
+    }
+}
+
+/// `out` and the scratch of a refinement.
+struct Refining {
+    out: Output<i32>,
+    scratch: Output<i32>,
+}
+
+impl Refining {
+    fn new(room: Room) -> Self {
+        Refining {
+            out: Output::over(room.out_len, room.junk),
+            scratch: Output::over(room.scratch_len, room.junk),
+        }
+    }
+
+    /// The refined net when accepted. The scratch numbers that are free are not looked at.
+    fn result(&self, refusal: u32, size: (usize, usize), k: usize) -> Result<Vec<i32>, u32> {
+        // Without a length no output is long enough.
+        let count = |needed: Option<usize>| needed.unwrap_or(usize::MAX);
+        let scratch_len = count(refinement::scratch_len(size, k));
+        let refined_len = count(refinement::refined_len(size, k));
+        // Both are checked before a refusal is handed back.
+        let free = self.scratch.front(refusal, scratch_len);
+        let refined = self.out.front(refusal, refined_len);
+        free.and(refined).map(<[i32]>::to_vec)
+    }
+}
+
+/// A refined net and a surface point of it.
+pub type RefinedPoint = (Vec<i32>, [i32; POINT_NUMBERS]);
 
 enum Memory<T> {
     // In a cell, since the library gets a pointer into it and might write.
@@ -237,6 +304,57 @@ impl LentNet {
         let [count] = written.result(refusal).unwrap_or([0]);
         let bytes = out.front(refusal, count as usize)?;
         Ok(bytes.to_vec())
+    }
+
+    /// The numbers of the net after k steps.
+    pub fn refine(&self, (w, h): (usize, usize), k: usize, room: Room) -> Result<Vec<i32>, u32> {
+        let mut lent = Refining::new(room);
+        let (net, len) = (self.pointer(), self.numbers.len());
+        let (out, scratch) = (lent.out.pointer(), lent.scratch.pointer());
+        let (out_len, scratch_len) = (room.out_len, room.scratch_len);
+        // SAFETY: `len`, `out_len` and `scratch_len` numbers are lent.
+        let refusal =
+            unsafe { raw::ups_refine(net, len, w, h, k, out, out_len, scratch, scratch_len) };
+        self.check();
+        lent.result(refusal, (w, h), k)
+    }
+
+    /// The numbers of the net after k steps, and its surface point at a place of its grid.
+    pub fn refined_point(
+        &self,
+        (w, h): (usize, usize),
+        k: usize,
+        (p, q): (usize, usize),
+        room: Room,
+        point_len: usize,
+    ) -> Result<RefinedPoint, u32> {
+        let mut lent = Refining::new(room);
+        let mut point = Output::<i32>::new(point_len);
+        let (net, len) = (self.pointer(), self.numbers.len());
+        let (out, scratch) = (lent.out.pointer(), lent.scratch.pointer());
+        let (out_len, scratch_len) = (room.out_len, room.scratch_len);
+        let to = point.pointer();
+        // SAFETY: `len`, `out_len`, `scratch_len` and `point_len` numbers are lent.
+        let refusal = unsafe {
+            raw::ups_refined_point(
+                net,
+                len,
+                w,
+                h,
+                k,
+                p,
+                q,
+                out,
+                out_len,
+                scratch,
+                scratch_len,
+                to,
+                point_len,
+            )
+        };
+        self.check();
+        let point = point.result(refusal);
+        Ok((lent.result(refusal, (w, h), k)?, point?))
     }
 }
 

@@ -1,9 +1,9 @@
 //! Tests of the library `ups` against exact rational arithmetic.
 //!
-//! `oracle` writes the definitions down in exact rationals and `netfile` those of the net
-//! file, `kernel` calls the library with guarded memory, `call` asks both the same question. A
-//! further subject of the library gets its own definitions in `oracle` or a module of its own,
-//! its own wrapper in `kernel` and a case of `call::Ask`.
+//! `oracle` writes the definitions down in exact rationals, `refinement` those of refinement
+//! and `netfile` those of the net file, `kernel` calls the library with guarded memory, `call`
+//! asks both the same question. A further subject of the library gets its own definitions in
+//! `oracle` or a module of its own, its own wrapper in `kernel` and a case of `call::Ask`.
 
 pub mod call;
 pub mod kernel;
@@ -14,3 +14,4 @@ pub mod pages;
 pub mod random;
 pub mod rational;
 mod raw;
+pub mod refinement;

@@ -57,14 +57,6 @@ pub fn file_len(w: usize, h: usize) -> Option<usize> {
     numbers.checked_add(3)?.checked_mul(4)
 }
 
-/// Whether one of the net's numbers, as far as they are lent, is beyond its range.
-fn number_fault(net: &[i32], w: usize, h: usize) -> bool {
-    let count = w.saturating_mul(h).saturating_mul(9);
-    net.iter()
-        .take(count)
-        .any(|x| !(-LIMIT..=LIMIT).contains(x))
-}
-
 pub fn write_faults(
     net: &[i32],
     (w, h): (usize, usize),
@@ -76,7 +68,7 @@ pub fn write_faults(
         (oracle::size_fault(w, h), 1),
         (oracle::short(net.len(), w, h), 2),
         (out_short || written_len < 1, 5),
-        (number_fault(net, w, h), 3),
+        (oracle::net_fault(net, w, h), 3),
     ]
 }
 

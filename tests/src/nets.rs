@@ -61,46 +61,50 @@ pub fn random_size(random: &mut Random) -> (usize, usize) {
 }
 
 /// At least 100 places of a net of the given size.
-pub fn places(random: &mut Random, (w, h): (usize, usize)) -> Vec<(usize, usize)> {
-    const D: usize = 1024;
-    let (last_p, last_q) = (D * (w - 1), D * (h - 1));
+pub fn places(random: &mut Random, size: (usize, usize)) -> Vec<(usize, usize)> {
+    places_at(random, size, 1024)
+}
+
+/// At least 100 places at edge count `d`.
+pub fn places_at(random: &mut Random, (w, h): (usize, usize), d: usize) -> Vec<(usize, usize)> {
+    let (last_p, last_q) = (d * (w - 1), d * (h - 1));
     // The vertices at the four corners of the net, and some others.
     let mut places = vec![(0, 0), (last_p, 0), (0, last_q), (last_p, last_q)];
     for _ in 0..4 {
-        places.push((D * random.below(w), D * random.below(h)));
+        places.push((d * random.below(w), d * random.below(h)));
     }
     // Horizontal and vertical edges, among them the last row and the last column.
     for _ in 0..6 {
-        places.push((random.below(last_p + 1), D * random.below(h)));
+        places.push((random.below(last_p + 1), d * random.below(h)));
         places.push((random.below(last_p + 1), last_q));
-        places.push((D * random.below(w), random.below(last_q + 1)));
+        places.push((d * random.below(w), random.below(last_q + 1)));
         places.push((last_p, random.below(last_q + 1)));
     }
     // In a cell: the diagonal edge and the lines where two shares are equal, three in the up
     // triangle and three in the down triangle.
     for _ in 0..4 {
-        let t = random.below(D / 2 + 1);
+        let t = random.below(d / 2 + 1);
         let lines = [
-            (2 * t, D - 2 * t),
+            (2 * t, d - 2 * t),
             (t, t),
-            (t, D - 2 * t),
-            (D - 2 * t, t),
-            (D - t, D - t),
-            (D - t, 2 * t),
-            (2 * t, D - t),
+            (t, d - 2 * t),
+            (d - 2 * t, t),
+            (d - t, d - t),
+            (d - t, 2 * t),
+            (2 * t, d - t),
         ];
         for (f, g) in lines {
             let (i, j) = (random.below(w - 1), random.below(h - 1));
-            places.push((D * i + f, D * j + g));
+            places.push((d * i + f, d * j + g));
         }
     }
     // Next to the centre of a triangle.
     for _ in 0..4 {
-        let centre = random.pick(&[341, 682]);
+        let centre = random.pick(&[d / 3, 2 * d / 3]);
         let (i, j) = (random.below(w - 1), random.below(h - 1));
         places.push((
-            D * i + centre + random.below(2),
-            D * j + centre + random.below(2),
+            d * i + centre + random.below(2),
+            d * j + centre + random.below(2),
         ));
     }
     // Next to all these lines.

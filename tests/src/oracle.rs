@@ -18,16 +18,16 @@ fn step(k: usize) -> Vertex {
     STEPS[k - 1]
 }
 
-fn ahead(at: Vertex, k: usize) -> Vertex {
+pub(crate) fn ahead(at: Vertex, k: usize) -> Vertex {
     (at.0 + step(k).0, at.1 + step(k).1)
 }
 
-fn behind(at: Vertex, m: usize) -> Vertex {
+pub(crate) fn behind(at: Vertex, m: usize) -> Vertex {
     (at.0 - step(m).0, at.1 - step(m).1)
 }
 
 /// The two indices other than k.
-fn others(k: usize) -> [usize; 2] {
+pub(crate) fn others(k: usize) -> [usize; 2] {
     match k {
         1 => [2, 3],
         2 => [1, 3],
@@ -36,7 +36,7 @@ fn others(k: usize) -> [usize; 2] {
     }
 }
 
-fn sum(points: &[Point]) -> Point {
+pub(crate) fn sum(points: &[Point]) -> Point {
     let mut total = [Rational::ZERO; 3];
     for point in points {
         for (t, &x) in total.iter_mut().zip(point) {
@@ -50,11 +50,11 @@ fn scaled(point: Point, factor: Rational) -> Point {
     point.map(|x| x * factor)
 }
 
-fn times(factor: i128, point: Point) -> Point {
+pub(crate) fn times(factor: i128, point: Point) -> Point {
     scaled(point, Rational::whole(factor))
 }
 
-fn over(point: Point, divisor: i128) -> Point {
+pub(crate) fn over(point: Point, divisor: i128) -> Point {
     point.map(|x| x / Rational::whole(divisor))
 }
 
@@ -149,7 +149,7 @@ impl<'a> Net<'a> {
         &self.numbers[start..start + 9]
     }
 
-    fn control(&self, at: Vertex, k: usize) -> Point {
+    pub(crate) fn control(&self, at: Vertex, k: usize) -> Point {
         let numbers = &self.vertex(at)[3 * (k - 1)..3 * k];
         [numbers[0].into(), numbers[1].into(), numbers[2].into()]
     }
@@ -318,9 +318,10 @@ impl Patch {
     }
 }
 
-/// The surface point for an exact value: each coordinate rounded once.
+/// Each coordinate rounded once: the surface point for an exact value, a control point for its
+/// refined value.
 pub fn rounded(exact: Point) -> [i32; 3] {
-    exact.map(|x| i32::try_from(x.rounded()).expect("a surface point fits 32 bits"))
+    exact.map(|x| i32::try_from(x.rounded()).expect("a rounded point fits 32 bits"))
 }
 
 /// The viewer's point for a surface point, as bits, since doubles are compared bit for bit.
@@ -357,8 +358,18 @@ fn no_cell(w: usize, h: usize, i: usize, j: usize) -> bool {
     i as i128 > w as i128 - 2 || j as i128 > h as i128 - 2
 }
 
-fn no_place(w: usize, h: usize, p: usize, q: usize) -> bool {
+pub(crate) fn no_place(w: usize, h: usize, p: usize, q: usize) -> bool {
     p as i128 > EDGE * (w as i128 - 1) || q as i128 > EDGE * (h as i128 - 1)
+}
+
+fn beyond_range(x: &i32) -> bool {
+    !(-LIMIT..=LIMIT).contains(x)
+}
+
+/// Whether one of the net's numbers, as far as they are lent, is beyond its range.
+pub(crate) fn net_fault(net: &[i32], w: usize, h: usize) -> bool {
+    let count = w.saturating_mul(h).saturating_mul(9);
+    net.iter().take(count).any(beyond_range)
 }
 
 /// Whether one of the triangle's 27 numbers, as far as they are lent, is beyond its range.
@@ -373,7 +384,7 @@ fn number_fault(net: &[i32], w: usize, triangle: Option<Triangle>) -> bool {
             return false;
         };
         let mut lent = net.iter().skip(start).take(9);
-        lent.any(|x| !(-LIMIT..=LIMIT).contains(x))
+        lent.any(beyond_range)
     })
 }
 

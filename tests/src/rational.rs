@@ -41,6 +41,10 @@ impl Rational {
 
     pub fn new(numerator: i128, denominator: i128) -> Self {
         assert!(denominator != 0, "denominator 0");
+        // Whole numbers, the most of the values, are reduced.
+        if denominator == 1 {
+            return Rational::whole(numerator);
+        }
         let divisor = gcd(numerator.unsigned_abs(), denominator.unsigned_abs());
         let divisor = i128::try_from(divisor).expect("rational overflow");
         let sign = denominator.signum();

@@ -58,4 +58,30 @@ extern "C" {
         size: *mut u64,
         size_len: usize,
     ) -> u32;
+    pub fn ups_refine(
+        net: *const i32,
+        len: usize,
+        w: usize,
+        h: usize,
+        k: usize,
+        out: *mut i32,
+        out_len: usize,
+        scratch: *mut i32,
+        scratch_len: usize,
+    ) -> u32;
+    pub fn ups_refined_point(
+        net: *const i32,
+        len: usize,
+        w: usize,
+        h: usize,
+        k: usize,
+        p: usize,
+        q: usize,
+        out: *mut i32,
+        out_len: usize,
+        scratch: *mut i32,
+        scratch_len: usize,
+        point: *mut i32,
+        point_len: usize,
+    ) -> u32;
 }

@@ -13,7 +13,9 @@ fn asks(random: &mut Random, (w, h): (usize, usize)) -> Vec<Ask> {
         Ask::Vertex { i: 0, j: 0 },
         Ask::Vertex { i: w - 1, j: h - 1 },
         Ask::Write { written_len: 1 },
+        Ask::refined_point((w, h), 1, (1024, 2048 * (h - 1))),
     ];
+    asks.extend([0, 1, 2].map(|k| Ask::refine((w, h), k)));
     for down in [0, 1] {
         for (i, j) in [(0, 0), (w - 2, 0), (0, h - 2), (w - 2, h - 2)] {
             asks.push(Ask::Bezier { i, j, down });

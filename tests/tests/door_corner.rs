@@ -1,13 +1,25 @@
 //! The worked cases of the specification.
 
 use ups_tests::call::{Answer, Ask, Call, Reading};
-use ups_tests::kernel::LentNet;
+use ups_tests::kernel::{LentNet, Room};
 use ups_tests::netfile::{self, FileNet};
 use ups_tests::nets::door_corner;
 use ups_tests::oracle::{self, Net, EDGE, LIMIT};
 use ups_tests::rational::Rational;
 
 const SIZE: (usize, usize) = (2, 2);
+/// Column, row and point of each refined vertex, as the specification lists them.
+const LISTING: [(usize, usize, [i32; 3]); 9] = [
+    (0, 0, [0, 0, 40]),
+    (1, 0, [600, 0, 40]),
+    (2, 0, [1200, 0, 0]),
+    (0, 1, [0, 600, 30]),
+    (1, 1, [600, 600, 0]),
+    (2, 1, [1200, 600, 0]),
+    (0, 2, [0, 1200, 0]),
+    (1, 2, [600, 1200, 0]),
+    (2, 2, [1200, 1200, 0]),
+];
 
 fn z_numbers(numbers: &[i32]) -> Vec<i32> {
     numbers.iter().skip(2).step_by(3).copied().collect()
@@ -33,6 +45,15 @@ fn file(net: &[i32]) -> Vec<u8> {
         panic!("{answer:?}");
     };
     bytes
+}
+
+/// The numbers after k steps, after comparison with the oracle.
+fn refine(net: &[i32], k: usize) -> Vec<i32> {
+    let answer = Call::new(net, SIZE, Ask::refine(SIZE, k)).check();
+    let Answer::Numbers(numbers) = answer else {
+        panic!("{answer:?}");
+    };
+    numbers
 }
 
 fn bezier(net: &[i32], down: u32) -> Vec<i32> {
@@ -88,20 +109,47 @@ fn the_middle_point_is_exactly_forty_seven_and_a_half() {
 /// the listing's rows are surface points of the starting net.
 #[test]
 fn the_rows_of_the_listing() {
-    let rows = [
-        (0, 0, [0, 0, 40]),
-        (1, 0, [600, 0, 40]),
-        (2, 0, [1200, 0, 0]),
-        (0, 1, [0, 600, 30]),
-        (1, 1, [600, 600, 0]),
-        (2, 1, [1200, 600, 0]),
-        (0, 2, [0, 1200, 0]),
-        (1, 2, [600, 1200, 0]),
-        (2, 2, [1200, 1200, 0]),
-    ];
     let net = door_corner(120);
-    for (i, j, expected) in rows {
+    for (i, j, expected) in LISTING {
         assert_eq!(point(&net, 512 * i, 512 * j), expected, "row {i} {j}");
+    }
+}
+
+/// The same rows from the refined net.
+#[test]
+fn the_rows_of_the_listing_after_one_step() {
+    let net = door_corner(120);
+    for (i, j, expected) in LISTING {
+        let ask = Ask::refined_point(SIZE, 1, (1024 * i, 1024 * j));
+        let answer = Call::new(&net, SIZE, ask).check();
+        let Answer::Refined((refined, point)) = answer else {
+            panic!("{answer:?}");
+        };
+        assert_eq!(refined, refine(&net, 1));
+        assert_eq!(point, expected, "row {i} {j}");
+    }
+}
+
+#[test]
+fn refined_numbers_of_the_door_corner() {
+    for (z, expected) in [
+        (120, [[80, 20, 20], [0, 60, 60], [30, 0, 60]]),
+        (-120, [[-80, -20, -20], [0, -60, -60], [-30, 0, -60]]),
+    ] {
+        let z = z_numbers(&refine(&door_corner(z), 1));
+        // Vertices (0, 0), (1, 0) and (0, 1) of three in a row; beyond them all z are 0.
+        for (vertex, z) in z.chunks(3).enumerate() {
+            let place = [0, 1, 3].iter().position(|&at| at == vertex);
+            assert_eq!(z, place.map_or([0; 3], |n| expected[n]), "vertex {vertex}");
+        }
+    }
+}
+
+#[test]
+fn refined_halves_go_upwards_on_both_sides_of_zero() {
+    for (z, half) in [(1, 1), (-1, 0), (3, 2), (-3, -1), (5, 3), (-5, -2)] {
+        let z = z_numbers(&refine(&door_corner(z), 1));
+        assert_eq!(z[3..6], [0, half, half]);
     }
 }
 
@@ -186,6 +234,11 @@ fn examples_of_refusals() {
         Ask::Surface { p: 0, q: 0 },
         Ask::View { p: 0, q: 0 },
         Ask::Write { written_len: 1 },
+        Ask::refine(SIZE, 0),
+        Ask::refine(SIZE, 1),
+        Ask::refine(SIZE, 6),
+        Ask::refined_point(SIZE, 0, (0, 0)),
+        Ask::refined_point(SIZE, 2, (0, 0)),
     ];
     for ask in asks {
         Call::new(&net, SIZE, ask).expect(0);
@@ -200,8 +253,17 @@ fn examples_of_refusals() {
         };
         Call::new(&beyond, SIZE, ask).expect(number);
     }
-    for ask in [Ask::Surface { p: 1025, q: 0 }, Ask::View { p: 1025, q: 0 }] {
+    for ask in [
+        Ask::Surface { p: 1025, q: 0 },
+        Ask::View { p: 1025, q: 0 },
+        Ask::refined_point(SIZE, 0, (1025, 0)),
+        Ask::refined_point(SIZE, 1, (2049, 0)),
+    ] {
         Call::new(&net, SIZE, ask).expect(6);
+    }
+    let wide = (18, 2);
+    for ask in [Ask::refine(wide, 6), Ask::refined_point(wide, 6, (0, 0))] {
+        Call::new(&vec![0; 9 * 18 * 2], wide, ask).expect(4);
     }
     let mut write = Call::new(&net, SIZE, Ask::Write { written_len: 1 });
     for (out_len, refusal) in [(155, 5), (156, 0)] {
@@ -285,6 +347,20 @@ fn accepted_at_the_edge() {
 }
 
 #[test]
+fn six_steps_of_17_by_17_are_accepted() {
+    let size = (17, 17);
+    let last = 1024 * 1024;
+    for edge in [LIMIT, -LIMIT] {
+        let net = LentNet::new(&vec![edge; 9 * 17 * 17]);
+        let room = Room::of_steps(size, 6, 0);
+        let refined = net.refine(size, 6, room).expect("accepted");
+        assert!(refined == vec![edge; 9 * 1025 * 1025]);
+        let at_once = net.refined_point(size, 6, (last, last), room, 3);
+        assert!(at_once == Ok((refined, [edge; 3])));
+    }
+}
+
+#[test]
 fn the_greatest_net_is_accepted() {
     const SIDE: usize = 1025;
     let size = (SIDE, SIDE);
@@ -320,6 +396,7 @@ fn one_vertex_more_a_side_is_refused() {
     let numbers = vec![0; 9 * 1026 * 1026];
     let net = LentNet::new(&numbers);
     let file_len = |(w, h)| netfile::file_len(w, h).expect("a length");
+    let copy = |size| Room::of_steps(size, 0, 0);
     for size in [
         (1026, 1026),
         (1026, 1025),
@@ -332,6 +409,7 @@ fn one_vertex_more_a_side_is_refused() {
         assert_eq!(net.surface_point(size, (0, 0), 3), Err(1));
         assert_eq!(net.view_point(size, (0, 0), 3), Err(1));
         assert_eq!(net.write(size, file_len(size), 1).err(), Some(1));
+        assert_eq!(net.refine(size, 0, copy(size)).err(), Some(1));
     }
     for size in [(1025, 1025), (1025, 2), (2, 1025)] {
         assert_eq!(net.vertex_refusal(size.0, size.1, 0, 0), 0);
@@ -339,5 +417,6 @@ fn one_vertex_more_a_side_is_refused() {
         assert_eq!(net.surface_point(size, (0, 0), 3), Ok([0; 3]));
         assert_eq!(net.view_point(size, (0, 0), 3), Ok([0; 3]));
         assert_eq!(net.write(size, file_len(size), 1).err(), None);
+        assert_eq!(net.refine(size, 0, copy(size)).err(), None);
     }
 }

@@ -5,6 +5,7 @@ use ups_tests::nets::{self, NUMBERS};
 use ups_tests::oracle::{self, chosen_triangle, triangles_at, Kind, Net, Patch, Triangle, EDGE};
 use ups_tests::random::Random;
 use ups_tests::rational::Rational;
+use ups_tests::refinement;
 
 fn ratio(numerator: i128, denominator: i128) -> Rational {
     Rational::new(numerator, denominator)
@@ -270,6 +271,113 @@ fn bezier_points_of_an_even_net_lie_at_their_places() {
     assert_eq!(twelfths(patch(Kind::Down)), expected_down.map(whole));
 }
 
+/// z of c1, c2, c3 at (0, 0), (1, 0) and (0, 1) of the door corner after one step; beyond them
+/// all z are 0.
+#[test]
+fn refined_z_of_the_door_corner() {
+    for (z, expected) in [
+        (120, [[80, 20, 20], [0, 60, 60], [30, 0, 60]]),
+        (-120, [[-80, -20, -20], [0, -60, -60], [-30, 0, -60]]),
+        // 4/6, 1/6, 1/2 and 1/4 of these, halves upwards.
+        (1, [[1, 0, 0], [0, 1, 1], [0, 0, 1]]),
+        (-1, [[-1, 0, 0], [0, 0, 0], [0, 0, 0]]),
+        (2, [[1, 0, 0], [0, 1, 1], [1, 0, 1]]),
+        (-2, [[-1, 0, 0], [0, -1, -1], [0, 0, -1]]),
+        (3, [[2, 1, 1], [0, 2, 2], [1, 0, 2]]),
+        (-3, [[-2, 0, 0], [0, -1, -1], [-1, 0, -1]]),
+    ] {
+        let refined = refinement::refined(&nets::door_corner(z), (2, 2), 1);
+        let found: Vec<i32> = refined.iter().skip(2).step_by(3).copied().collect();
+        let mut all = [[0; 3]; 9];
+        // Row by row, three vertices each.
+        [all[0], all[1], all[3]] = expected;
+        assert_eq!(found, all.as_flattened(), "z = {z}");
+    }
+}
+
+/// x and y of the door corner are linear, so its refined control points lie half as far from
+/// vertices half as far apart.
+#[test]
+fn refined_x_and_y_of_the_door_corner() {
+    for k in 0..=3 {
+        let refined = refinement::refined(&nets::door_corner(0), (2, 2), k);
+        let (side, edge) = ((1 << k) + 1, 1200 >> k);
+        let mut expected = Vec::new();
+        for j in 0..side {
+            for i in 0..side {
+                let (x, y, half) = (edge * i, edge * j, edge / 2);
+                expected.extend([x + half, y, 0, x - half, y + half, 0, x, y - half, 0]);
+            }
+        }
+        assert_eq!(refined, expected, "{k} steps");
+    }
+}
+
+/// One value at the end A or B of an edge in each direction, by hand. The new vertex halves the
+/// edge from A to B = A + ek; c1, c2, c3 of A are 8, 16, 24 and of B 40, 80, 120.
+#[test]
+fn refined_edges_in_each_direction() {
+    let (a, b) = ([8, 16, 24], [40, 80, 120]);
+    for (from, to, at, expected) in [
+        // e1: (80 + 120)/2, (2·8 + 16 + 80)/4, (2·8 + 24 + 120)/4
+        (0, 1, 1, [100, 28, 40]),
+        // e2: c2' = (120 + 40)/2, c3' = (2·16 + 24 + 120)/4, c1' = (2·16 + 8 + 40)/4
+        (1, 2, 4, [20, 80, 44]),
+        // e3, from the upper end: c3' = (40 + 80)/2, c1' = (2·24 + 8 + 40)/4,
+        // c2' = (2·24 + 16 + 80)/4
+        (2, 0, 3, [24, 36, 60]),
+    ] {
+        let mut numbers = vec![0; 36];
+        for k in 0..3 {
+            numbers[9 * from + 3 * k] = a[k];
+            numbers[9 * to + 3 * k] = b[k];
+        }
+        let refined = refinement::refined(&numbers, (2, 2), 1);
+        let found = [0, 3, 6].map(|start| refined[9 * at + start]);
+        assert_eq!(found, expected, "from vertex {from} to vertex {to}");
+    }
+}
+
+/// The numbers are multiples of 12 for each step, so nothing is rounded.
+#[test]
+fn exact_refinement_gives_the_same_spline() {
+    let mut random = Random::new(14);
+    for k in 0..=3 {
+        for _ in 0..12 {
+            let size = (2 + random.below(3), 2 + random.below(3));
+            let small = nets::random_net(&mut random, size, nets::Numbers::Small);
+            let numbers: Vec<i32> = small.iter().map(|x| x * 12_i32.pow(k as u32)).collect();
+            let refined = refinement::refined(&numbers, size, k);
+            let start = Net::new(&numbers, size.0, size.1);
+            let (w, h) = refinement::refined_size(size, k).expect("a size");
+            let fine = Net::new(&refined, w, h);
+            for (p, q) in nets::places(&mut random, (w, h)) {
+                let (p, q) = (p as i128, q as i128);
+                let exact = start.exact(p, q, EDGE << k);
+                assert_eq!(fine.exact(p, q, EDGE), exact, "{size:?} ({p}, {q})");
+            }
+        }
+    }
+}
+
+#[test]
+fn sizes_after_some_steps() {
+    for (size, k, expected) in [
+        ((2, 2), 0, Some((2, 2))),
+        ((2, 3), 1, Some((3, 5))),
+        ((2, 2), 6, Some((65, 65))),
+        ((17, 17), 6, Some((1025, 1025))),
+        ((18, 2), 6, Some((1089, 65))),
+        ((2, 2), 7, None),
+        ((usize::MAX, 2), 0, Some((usize::MAX, 2))),
+        ((usize::MAX, 2), 1, None),
+    ] {
+        assert_eq!(refinement::refined_size(size, k), expected, "{size:?} {k}");
+    }
+    let lens = [0, 1, 2, 3].map(|k| refinement::scratch_len((3, 2), k));
+    assert_eq!(lens, [Some(0), Some(0), Some(9 * 15), Some(9 * 45)]);
+}
+
 #[test]
 fn refusals_of_the_oracle_hold_for_the_greatest_sizes() {
     const MAX: usize = usize::MAX;
@@ -296,4 +404,14 @@ fn refusals_of_the_oracle_hold_for_the_greatest_sizes() {
         [true, true, true, false]
     );
     assert_eq!(all(netfile::write_faults(&net, (2, 2), 156, 1)), [false; 4]);
+    assert_eq!(
+        all(refinement::refine_faults(&net, (MAX, MAX), MAX, MAX, MAX)),
+        [true, true, true, true, false]
+    );
+    assert_eq!(
+        all(refinement::refine_faults(&net, (2, 2), 1, 81, 0)),
+        [false; 5]
+    );
+    let far = refinement::refined_point_faults(&net, (2, 2), 2, (4097, 0), 225, 80, 3);
+    assert_eq!(all(far), [false, false, true, false, true, false]);
 }

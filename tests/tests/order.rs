@@ -5,21 +5,45 @@ use ups_tests::netfile;
 use ups_tests::nets::{self, Numbers};
 use ups_tests::oracle::{self, LIMIT};
 use ups_tests::random::Random;
+use ups_tests::refinement;
 
 const MAX: usize = usize::MAX;
 const SIZE: (usize, usize) = (4, 3);
-const ORDER: [u32; 5] = [1, 6, 2, 5, 3];
+/// Six steps take sides of 17 vertices, so here the width alone or the height alone is too
+/// great for them.
+const WIDE: (usize, usize) = (18, 2);
+const HIGH: (usize, usize) = (2, 18);
+const ORDER: [u32; 6] = [1, 4, 6, 2, 5, 3];
 
+type Size = (usize, usize);
 /// Puts one fault into a call.
 type Fault = fn(&mut Call);
 
-fn base(ask: Ask) -> Call {
-    let net = nets::random_net(&mut Random::new(61), SIZE, Numbers::Mixed);
-    Call::new(&net, SIZE, ask)
+fn base((size, ask): (Size, Ask)) -> Call {
+    let net = nets::random_net(&mut Random::new(61), size, Numbers::Mixed);
+    Call::new(&net, size, ask)
 }
 
-/// Makes the net and a file long enough for their size, so that number 1 can stand alone.
+/// Each call; those that refine with one step and with two as well, where they need a scratch.
+fn bases() -> Vec<(Size, Ask)> {
+    let mut bases: Vec<(Size, Ask)> = ASKS.map(|ask| (SIZE, ask)).to_vec();
+    for (size, k) in [(SIZE, 1), (WIDE, 2), (HIGH, 2)] {
+        bases.push((size, Ask::refine(size, k)));
+        bases.push((size, Ask::refined_point(size, k, (300, 200))));
+    }
+    bases
+}
+
+fn refines(ask: Ask) -> bool {
+    matches!(ask, Ask::Refine { .. } | Ask::RefinedPoint { .. })
+}
+
+/// Makes the net and a file long enough for their size, so that number 1 can stand alone. Where
+/// a net is refined it cannot, since a side above 1,025 is number 4 as well.
 fn lengthen(call: &mut Call) {
+    if refines(call.ask) {
+        return;
+    }
     call.net.resize(9 * call.w * call.h, 0);
     if matches!(call.ask, Ask::Write { .. }) {
         call.out_len = netfile::file_len(call.w, call.h).expect("a length");
@@ -45,16 +69,38 @@ fn size_faults() -> Vec<Fault> {
     ]
 }
 
+fn set_steps(call: &mut Call, steps: usize) {
+    if let Ask::Refine { k, .. } | Ask::RefinedPoint { k, .. } = &mut call.ask {
+        *k = steps;
+    }
+}
+
+/// More steps than six, and six where a side is too long for them.
+fn step_faults((w, h): Size) -> Vec<Fault> {
+    let mut faults: Vec<Fault> = vec![|c| set_steps(c, 7), |c| set_steps(c, 1 << 32), |c| {
+        set_steps(c, MAX)
+    }];
+    if w.max(h) > 17 {
+        faults.push(|c| set_steps(c, 6));
+    }
+    faults
+}
+
+/// The first place beyond the grid after k steps; any where there is no such grid.
+fn beyond_grid(side: usize, k: usize) -> usize {
+    let refined = refinement::refined_size((side, side), k);
+    let last = refined.and_then(|(side, _)| side.wrapping_sub(1).checked_mul(1024));
+    last.map_or(MAX, |last| last.saturating_add(1))
+}
+
 fn column(call: &mut Call, beyond: fn(usize) -> usize) {
     let w = call.w;
     match &mut call.ask {
         Ask::Vertex { i, .. } => *i = beyond(w),
         Ask::Bezier { i, .. } => *i = beyond(w.wrapping_sub(1)),
-        Ask::Surface { p, .. } | Ask::View { p, .. } => {
-            let last = w.wrapping_sub(1).wrapping_mul(1024);
-            *p = beyond(last.saturating_add(1));
-        }
-        Ask::Write { .. } => {}
+        Ask::Surface { p, .. } | Ask::View { p, .. } => *p = beyond(beyond_grid(w, 0)),
+        Ask::RefinedPoint { p, k, .. } => *p = beyond(beyond_grid(w, *k)),
+        Ask::Write { .. } | Ask::Refine { .. } => {}
     }
 }
 
@@ -63,11 +109,9 @@ fn row(call: &mut Call, beyond: fn(usize) -> usize) {
     match &mut call.ask {
         Ask::Vertex { j, .. } => *j = beyond(h),
         Ask::Bezier { j, .. } => *j = beyond(h.wrapping_sub(1)),
-        Ask::Surface { q, .. } | Ask::View { q, .. } => {
-            let last = h.wrapping_sub(1).wrapping_mul(1024);
-            *q = beyond(last.saturating_add(1));
-        }
-        Ask::Write { .. } => {}
+        Ask::Surface { q, .. } | Ask::View { q, .. } => *q = beyond(beyond_grid(h, 0)),
+        Ask::RefinedPoint { q, k, .. } => *q = beyond(beyond_grid(h, *k)),
+        Ask::Write { .. } | Ask::Refine { .. } => {}
     }
 }
 
@@ -111,12 +155,33 @@ fn no_count(call: &mut Call) {
     }
 }
 
+fn shorten_scratch(call: &mut Call, shorter: fn(usize) -> usize) {
+    if let Ask::Refine { scratch_len, .. } | Ask::RefinedPoint { scratch_len, .. } = &mut call.ask {
+        *scratch_len = shorter(*scratch_len);
+    }
+}
+
+fn shorten_point(call: &mut Call, len: usize) {
+    if let Ask::RefinedPoint { point_len, .. } = &mut call.ask {
+        *point_len = len;
+    }
+}
+
 fn output_faults(ask: Ask) -> Vec<Fault> {
     let mut faults: Vec<Fault> = vec![|c| c.out_len = c.out_len.saturating_sub(1), |c| {
         c.out_len = 0
     }];
-    if matches!(ask, Ask::Write { .. }) {
-        faults.push(no_count);
+    match ask {
+        Ask::Write { .. } => faults.push(no_count),
+        Ask::RefinedPoint { .. } => {
+            faults.push(|c| shorten_point(c, 2));
+            faults.push(|c| shorten_point(c, 0));
+        }
+        _ => {}
+    }
+    if let Ask::Refine { k: 2.., .. } | Ask::RefinedPoint { k: 2.., .. } = ask {
+        faults.push(|c| shorten_scratch(c, |needed| needed - 1));
+        faults.push(|c| shorten_scratch(c, |_| 0));
     }
     faults
 }
@@ -129,19 +194,23 @@ fn number_faults() -> Vec<Fault> {
 
 /// The faults of a call in the order in which they are put in: a later one may depend on what
 /// an earlier one left.
-fn faults(ask: Ask) -> Vec<(u32, Vec<Fault>)> {
+fn faults((size, ask): (Size, Ask)) -> Vec<(u32, Vec<Fault>)> {
     let mut faults = vec![
         (1, size_faults()),
+        (4, step_faults(size)),
         (6, place_faults(ask)),
         (3, number_faults()),
         (2, net_faults()),
         (5, output_faults(ask)),
     ];
-    match ask {
-        Ask::Vertex { .. } => faults.retain(|(number, _)| [1, 6, 2].contains(number)),
-        Ask::Write { .. } => faults.retain(|(number, _)| [1, 2, 5, 3].contains(number)),
-        _ => {}
-    }
+    let numbers: &[u32] = match ask {
+        Ask::Vertex { .. } => &[1, 6, 2],
+        Ask::Write { .. } => &[1, 2, 5, 3],
+        Ask::Refine { .. } => &[1, 4, 2, 5, 3],
+        Ask::RefinedPoint { .. } => &ORDER,
+        _ => &[1, 6, 2, 5, 3],
+    };
+    faults.retain(|(number, _)| numbers.contains(number));
     faults
 }
 
@@ -160,12 +229,13 @@ fn choices(groups: &[&(u32, Vec<Fault>)]) -> Vec<Vec<Fault>> {
 
 /// Applies each choice of faults with these numbers and expects the earliest number. Hands
 /// back whether in some call the conditions of all the numbers held together.
-fn check(ask: Ask, groups: &[&(u32, Vec<Fault>)]) -> bool {
+fn check(of: (Size, Ask), groups: &[&(u32, Vec<Fault>)]) -> bool {
     let numbers: Vec<u32> = groups.iter().map(|group| group.0).collect();
     let first = ORDER.into_iter().find(|number| numbers.contains(number));
+    let start = base(of);
     let mut together = false;
     for chosen in choices(groups) {
-        let mut call = base(ask);
+        let mut call = start.clone();
         for fault in chosen {
             fault(&mut call);
         }
@@ -179,25 +249,26 @@ fn check(ask: Ask, groups: &[&(u32, Vec<Fault>)]) -> bool {
 
 #[test]
 fn each_fault_alone() {
-    for ask in ASKS {
-        base(ask).expect(0);
-        for group in &faults(ask) {
-            assert!(check(ask, &[group]));
+    for of in bases() {
+        base(of).expect(0);
+        for group in &faults(of) {
+            assert!(check(of, &[group]));
         }
     }
 }
 
 #[test]
 fn each_pair_of_faults() {
-    for ask in ASKS {
-        let faults = faults(ask);
+    for of in bases() {
+        let faults = faults(of);
         for (n, one) in faults.iter().enumerate() {
             for other in &faults[n + 1..] {
-                let together = check(ask, &[one, other]);
+                let together = check(of, &[one, other]);
                 // A triangle that does not exist has no control points, so 6 and 3 do not
                 // occur together; the net is full of numbers beyond the range all the same.
-                let apart = (one.0, other.0) == (6, 3);
-                assert_eq!(together, !apart, "{ask:?}: {} and {}", one.0, other.0);
+                // A net that is refined is looked at as a whole.
+                let apart = (one.0, other.0) == (6, 3) && !refines(of.1);
+                assert_eq!(together, !apart, "{of:?}: {} and {}", one.0, other.0);
             }
         }
     }
@@ -205,15 +276,15 @@ fn each_pair_of_faults() {
 
 #[test]
 fn each_set_of_faults() {
-    for ask in ASKS {
-        let faults = faults(ask);
+    for of in bases() {
+        let faults = faults(of);
         for set in 0..1 << faults.len() {
             let in_set = |n: &usize| set >> n & 1 == 1;
             let groups: Vec<_> = (0..faults.len())
                 .filter(in_set)
                 .map(|n| &faults[n])
                 .collect();
-            check(ask, &groups);
+            check(of, &groups);
         }
     }
 }
@@ -242,6 +313,7 @@ fn random_calls() {
             let position = random.below(net.len());
             net[position] = random.pick(&[LIMIT + 1, -LIMIT - 1, i32::MIN, i32::MAX]);
         }
+        let k = random.pick(&[0, 0, 1, 1, 1, 2, 2, 7, 1 << 32, MAX]);
         let mut index = |limit: usize| match random.below(8) {
             0 => limit,
             1 => limit.wrapping_add(1),
@@ -252,14 +324,26 @@ fn random_calls() {
         let (i, j) = (index(w.wrapping_sub(1)), index(h.wrapping_sub(1)));
         let last = |side: usize| side.wrapping_sub(1).wrapping_mul(1024);
         let (p, q) = (index(last(w)), index(last(h)));
+        let refined_last = |side| beyond_grid(side, k).wrapping_sub(1);
+        let (refined_p, refined_q) = (index(refined_last(w)), index(refined_last(h)));
         let down = random.pick(&[0, 0, 0, 1, 1, 1, 2, u32::MAX]);
         let written_len = random.pick(&[0, 1, 1, 1, 1, 2, 3]);
+        let needed = refinement::scratch_len((w, h), k).map_or(0, |len| len.min(1 << 12));
+        let scratch_len = random.pick(&[needed, needed, needed, needed + 1, needed / 2, 0]);
         let asks = [
             Ask::Vertex { i, j },
             Ask::Bezier { i, j, down },
             Ask::Surface { p, q },
             Ask::View { p, q },
             Ask::Write { written_len },
+            Ask::Refine { k, scratch_len },
+            Ask::RefinedPoint {
+                k,
+                p: refined_p,
+                q: refined_q,
+                scratch_len,
+                point_len: random.pick(&[0, 2, 3, 3, 3, 3, 3, 3, 4]),
+            },
         ];
         let mut call = Call::new(&net, (w, h), random.pick(&asks));
         if random.below(8) == 0 {
@@ -270,7 +354,7 @@ fn random_calls() {
         seen[refusal as usize] += 1;
     }
     println!("calls by refusal: {seen:?}");
-    for number in [0, 1, 2, 3, 5, 6] {
+    for number in 0..=6 {
         assert!(seen[number] >= 300, "too few calls with {number}: {seen:?}");
     }
 }

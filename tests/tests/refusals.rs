@@ -247,13 +247,19 @@ fn three_each_number_of_the_triangle_beyond_its_range() {
 }
 
 #[test]
-fn three_each_number_of_a_written_net_beyond_its_range() {
+fn three_each_number_of_a_net_that_is_taken_whole() {
     let net = net();
-    for position in 0..net.len() {
-        expect_range(
-            Call::new(&net, SIZE, Ask::Write { written_len: 1 }),
-            position,
-        );
+    for ask in [
+        Ask::Write { written_len: 1 },
+        Ask::refine(SIZE, 0),
+        Ask::refine(SIZE, 1),
+        Ask::refine(SIZE, 2),
+        Ask::refined_point(SIZE, 0, (0, 0)),
+        Ask::refined_point(SIZE, 2, (0, 0)),
+    ] {
+        for position in 0..net.len() {
+            expect_range(Call::new(&net, SIZE, ask), position);
+        }
     }
 }
 

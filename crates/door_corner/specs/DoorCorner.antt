@@ -6,10 +6,12 @@ use mathlib.Core.List.{List, [], _∷_, _++_, map}
 use Prim.Native.Nat.{ℕ}
 use lib.IntN.{ℤ, pos, negsuc, _+ℤ_, _-ℤ_, _*ℤ_}
 use Rattle.exact.specs.Rounding.{rounded, floorQuotient}
+use Rattle.exact.specs.Filling.{runs}
 use Rattle.net.specs.Net.{one, two, three, vertexAt, triangleAt, controlPoint, controlTriangle, field}
 use Rattle.surface.specs.BezierNet.{controlsOf, bezierPoints}
 use Rattle.surface.specs.SurfacePoint.{spline, coordinate}
 use Rattle.subdivision.specs.Refinement.{refinement, exactRefinement}
+use Rattle.refine.specs.RefinedNet.{stored, refinedNet}
 use Rattle.netfile.specs.NetFile.{zKind, numberBytes, wordBytes}
 
 -- the nine numbers of vertex (i, j), where a = 1200i, b = 1200j and c1 has height z: 'x of c1, c2, c3 is 1200i + 600, 1200i - 600, 1200i;
@@ -42,9 +44,9 @@ exactAt z p q = spline (field (doorCorner z) 2 2) 2 2 1024 p q
 abbrev bezierZ : ℤ → List ℤ
 bezierZ z = bezierPoints false (controlsOf (field (doorCorner z) 2 2) (triangleAt 0 0 false))
 
--- z of the control triangle at vertex (i, j) of the net refined once
+-- z of the control triangle at vertex (i, j) of the net refined once, as it is stored
 abbrev refinedZ : ℤ → ℕ → ℕ → List ℤ
-refinedZ z i j = map (refinement (field (doorCorner z) 2 2) (vertexAt i j)) (one ∷ two ∷ three ∷ [])
+refinedZ z i j = map (field (refinedNet (doorCorner z) 2 2 1) 3 2 (vertexAt i j)) (one ∷ two ∷ three ∷ [])
 
 -- the bytes of the word of a z, high byte first
 abbrev wordOfZ : ℤ → List ℤ
@@ -76,5 +78,5 @@ cases =
 
 -- every case holds
 pub marked-cases : map (λ (c : Case). c .0) cases ≡ map (λ (c : Case). c .1) cases
-unfolding cases coordinate spline refinement exactRefinement rounded floorQuotient bezierPoints controlTriangle controlPoint wordBytes
+unfolding cases coordinate spline refinedNet stored runs refinement exactRefinement rounded floorQuotient bezierPoints controlTriangle controlPoint wordBytes
 marked-cases = refl

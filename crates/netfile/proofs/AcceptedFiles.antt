@@ -155,7 +155,7 @@ module _ (file : List ℕ) (lent : List ℤ) (taken : Readable file lent) where
   laid-over : after ≡ over (fileNumbers file) lent
   laid-over = sym (when-accepted (readRefusal file short) (over (fileNumbers file) lent) lent taken)
 
-  front : cut after width height ≡ fileNumbers file
+  pub front : cut after width height ≡ fileNumbers file
   front =
       ap (cut-of) laid-over ∙ ap (λ (k : ℕ). take k (over (fileNumbers file) lent)) (sym numbers-read) ∙ take-over (fileNumbers file) lent
     where

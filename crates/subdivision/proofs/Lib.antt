@@ -10,3 +10,4 @@ pub mod SameSpline
 pub mod Distance
 pub mod Range
 pub mod DemandThree
+pub mod Accepted

@@ -1,5 +1,5 @@
 -- From the calls' answers to the exported numbers and outputs.
-use mathlib.Core.Path.{_≡_, refl, sym, ap, _∙_}
+use mathlib.Core.Path.{_≡_, refl, sym, ap, subst, _∙_}
 use mathlib.Core.Bool.{Bool, true, false, cond, _||_}
 use mathlib.Core.List.{List, []}
 use Prim.Native.Nat.{ℕ, _≤_, _<_}
@@ -17,6 +17,7 @@ use Rattle.surface.specs.BezierNet.{bezierNumbers}
 use Rattle.surface.specs.SurfacePoint.{chosen}
 use Rattle.surface.specs.Answers.{bezierOutput}
 use Rattle.surface.specs.TurnedAway.{noTriangle, noPlace, triangleBeyond, bezierRefusal, pointRefusal}
+use Rattle.refine.proofs.CallLaws.{Left}
 use Rattle.ups.specs.Exports.{bezierExport, pointExport, withRoom}
 
 -- a test that is joined by one that fails, and by one that holds
@@ -106,3 +107,9 @@ module _ {A : Type 0} (r : ℕ) (values counts : List ℕ) (result out : List A)
       let same : n ≡ r = λ t. e t .0 in
       let there = not-accepted r values some e in
       (same, (g ∙ ap (λ (k : ℕ). outputAfter k result out) (sym same), when-refused n (over values counts) counts (λ z. there (sym same ∙ z))))
+
+-- a number that is the call's, and what stands in the output and the scratch of refining by it
+pub left-exported : (r k w h : ℕ) (result out scratch out′ scratch′ : List ℤ) {n : ℕ} → n ≡ r → Left r k w h result out scratch out′ scratch′ →
+    (n ≡ r) × Left n k w h result out scratch out′ scratch′
+left-exported r k w h result out scratch out′ scratch′ e l =
+    (e, subst (λ (m : ℕ). Left m k w h result out scratch out′ scratch′) (sym e) l)

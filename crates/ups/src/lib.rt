@@ -6,6 +6,9 @@ use netfile::ReadAnswer;
 use netfile::WriteAnswer;
 use netfile::read_with;
 use netfile::write_with;
+use refine::RefineAnswer;
+use refine::refine;
+use refine::refined_point_with;
 use surface::Answer;
 use surface::PointAnswer;
 use surface::ViewAnswer;
@@ -24,8 +27,11 @@ ghost use Rattle.net.specs.TurnedAway.{outputAfter, vertexRefusal};
 ghost use Rattle.surface.specs.BezierNet.{bezierNumbers};
 ghost use Rattle.surface.specs.SurfacePoint.{surfacePoint};
 ghost use Rattle.surface.specs.Answers.{viewPoint};
+ghost use Rattle.subdivision.specs.Refinement.{sideAfter};
+ghost use Rattle.refine.specs.RefinedNet.{refinedNet};
+ghost use Rattle.refine.specs.Answers.{refusalOf, freeScratch, KeptFrom};
 ghost use Rattle.netfile.specs.NetFile.{netFile, fileSize, fileWidth, fileHeight, fileNumbers};
-ghost use Rattle.ups.specs.Exports.{bezierExport, pointExport, withRoom, writeExport, readExport};
+ghost use Rattle.ups.specs.Exports.{bezierExport, pointExport, withRoom, writeExport, readExport, refinedPointExport};
 
 // 1, 6, 2, or 0: the companion of the vertex part.
 #[no_mangle]
@@ -177,5 +183,54 @@ pub extern "C" fn ups_read(file: &[u8], net: &mut [i32], size: &mut [u64]) -> u3
             0
         }
         ReadAnswer::Refused(n) => n,
+    }
+}
+
+// The net refined by k steps into `out`; the first numbers of `scratch` are free afterwards when k is 2 or more.
+#[no_mangle]
+pub extern "C" fn ups_refine(
+    net: &[i32],
+    w: usize,
+    h: usize,
+    k: usize,
+    out: &mut [i32],
+    scratch: &mut [i32],
+) -> u32
+    ensures { λ r. ⌜ r ≡ refusalOf (now (net .entry)) w h k (now (out .entry)) (now (scratch .entry)) ⌝ }
+    ensures { λ r. ⌜ now (out .exit) ≡ outputAfter r (refinedNet (now (net .entry)) w h k) (now (out .entry)) ⌝ }
+    ensures { λ r. ⌜ KeptFrom (freeScratch r k w h) (now (scratch .entry)) (now (scratch .exit)) ⌝ }
+{
+    let answer = refine(net, w, h, k, out, scratch);
+    match answer {
+        RefineAnswer::Done => 0,
+        RefineAnswer::Refused(n) => n,
+    }
+}
+
+// The same, and the surface point at place (p, q) of the refined net into `point`.
+#[no_mangle]
+pub extern "C" fn ups_refined_point(
+    net: &[i32],
+    w: usize,
+    h: usize,
+    k: usize,
+    p: usize,
+    q: usize,
+    out: &mut [i32],
+    scratch: &mut [i32],
+    point: &mut [i32],
+) -> u32
+    ensures { λ r. ⌜ r ≡ refinedPointExport (now (net .entry)) w h k p q (length (now (out .entry))) (length (now (scratch .entry))) (length (now (point .entry))) ⌝ }
+    ensures { λ r. ⌜ now (out .exit) ≡ outputAfter r (refinedNet (now (net .entry)) w h k) (now (out .entry)) ⌝ }
+    ensures { λ r. ⌜ KeptFrom (freeScratch r k w h) (now (scratch .entry)) (now (scratch .exit)) ⌝ }
+    ensures { λ r. ⌜ now (point .exit) ≡ outputAfter r (surfacePoint (refinedNet (now (net .entry)) w h k) (sideAfter k w) (sideAfter k h) p q) (now (point .entry)) ⌝ }
+{
+    let answer = refined_point_with(net, w, h, k, p, q, point.len() < 3, out, scratch);
+    match answer {
+        PointAnswer::At(at) => {
+            store_point([at.x, at.y, at.z], 0, point);
+            0
+        }
+        PointAnswer::Refused(n) => n,
     }
 }

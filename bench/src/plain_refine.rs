@@ -1,0 +1,174 @@
+//! Refinement in plain Rust, to compare the library with: once with the weight table, once
+//! written out for each kind of vertex.
+
+use crate::plain::{check_lengths, check_size, in_range, rounded, Refusal};
+use std::{array, mem};
+
+pub type Size = (usize, usize);
+
+type Triangle = [[i32; 3]; 3];
+
+/// The weights over 12 of a1 a2 a3 b1 b2 b3 in each control point of a vertex: kept, and new on
+/// an edge along e1, e2, e3. A kept vertex has no b.
+const WEIGHTS: [[[i64; 6]; 3]; 4] = [
+    [[8, 2, 2, 0, 0, 0], [2, 8, 2, 0, 0, 0], [2, 2, 8, 0, 0, 0]],
+    [[0, 0, 0, 0, 6, 6], [6, 3, 0, 0, 3, 0], [6, 0, 3, 0, 0, 3]],
+    [[3, 6, 0, 3, 0, 0], [0, 0, 0, 6, 0, 6], [0, 6, 3, 0, 0, 3]],
+    [[3, 0, 6, 3, 0, 0], [0, 3, 6, 0, 3, 0], [0, 0, 0, 6, 6, 0]],
+];
+
+#[inline(never)]
+pub fn by_table(
+    net: &[i32],
+    size: Size,
+    k: usize,
+    out: &mut [i32],
+    scratch: &mut [i32],
+) -> Result<(), Refusal> {
+    refine(net, size, k, out, scratch, table_step)
+}
+
+#[inline(never)]
+pub fn by_kind(
+    net: &[i32],
+    size: Size,
+    k: usize,
+    out: &mut [i32],
+    scratch: &mut [i32],
+) -> Result<(), Refusal> {
+    refine(net, size, k, out, scratch, kind_step)
+}
+
+pub fn refined((w, h): Size, k: usize) -> Size {
+    (((w - 1) << k) + 1, ((h - 1) << k) + 1)
+}
+
+pub fn numbers((w, h): Size) -> usize {
+    9 * w * h
+}
+
+fn refine(
+    net: &[i32],
+    size: Size,
+    k: usize,
+    out: &mut [i32],
+    scratch: &mut [i32],
+    step: impl Fn(&[Triangle], Size, &mut [Triangle]),
+) -> Result<(), Refusal> {
+    check_size(size.0, size.1)?;
+    if k > 6 {
+        return Err(4);
+    }
+    let (w, h) = refined(size, k);
+    check_size(w, h).map_err(|_| 4_u32)?;
+    check_lengths(net, size, out.len(), numbers((w, h)))?;
+    if k >= 2 && scratch.len() < numbers(refined(size, k - 1)) {
+        return Err(5);
+    }
+    let net = &net[..numbers(size)];
+    if !net.iter().all(in_range) {
+        return Err(3);
+    }
+    if k == 0 {
+        out[..net.len()].copy_from_slice(net);
+        return Ok(());
+    }
+    let (out, scratch) = (triangles_mut(out), triangles_mut(scratch));
+    // To and fro, so that the last step writes the output.
+    let (mut to, mut from) = if k % 2 == 1 {
+        (out, scratch)
+    } else {
+        (scratch, out)
+    };
+    step(triangles(net), size, to);
+    for done in 1..k {
+        mem::swap(&mut to, &mut from);
+        step(from, refined(size, done), to);
+    }
+    Ok(())
+}
+
+fn triangles(net: &[i32]) -> &[Triangle] {
+    net.as_chunks().0.as_chunks().0
+}
+
+fn triangles_mut(net: &mut [i32]) -> &mut [Triangle] {
+    net.as_chunks_mut().0.as_chunks_mut().0
+}
+
+fn table_step(net: &[Triangle], (w, h): Size, out: &mut [Triangle]) {
+    let (wide, high) = refined((w, h), 1);
+    for (y, row) in out.chunks_exact_mut(wide).take(high).enumerate() {
+        for (x, target) in row.iter_mut().enumerate() {
+            let vertex = y / 2 * w + x / 2;
+            let (kind, a, b) = match (x % 2, y % 2) {
+                (0, 0) => (0, vertex, vertex),
+                (1, 0) => (1, vertex, vertex + 1),
+                (1, _) => (2, vertex + 1, vertex + w),
+                _ => (3, vertex + w, vertex),
+            };
+            *target = weighted(&WEIGHTS[kind], &net[a], &net[b]);
+        }
+    }
+}
+
+fn weighted(weights: &[[i64; 6]; 3], a: &Triangle, b: &Triangle) -> Triangle {
+    let points = [a[0], a[1], a[2], b[0], b[1], b[2]];
+    array::from_fn(|c| {
+        array::from_fn(|x| {
+            let terms = weights[c].iter().zip(&points);
+            let sum = terms.map(|(weight, point)| weight * i64::from(point[x]));
+            rounded(sum.sum(), 12) as i32
+        })
+    })
+}
+
+/// Even rows hold kept vertices and those on edges along e1, odd rows those on edges along e3
+/// and e2.
+fn kind_step(net: &[Triangle], (w, h): Size, out: &mut [Triangle]) {
+    let (wide, _) = refined((w, h), 1);
+    let rows = || net.chunks_exact(w).take(h);
+    let mut targets = out.chunks_exact_mut(wide);
+    let mut next = || targets.next().expect("the output holds the refined net");
+    for (low, high) in rows().zip(rows().skip(1)) {
+        even_row(low, next());
+        odd_row(low, high, next());
+    }
+    even_row(&net[(h - 1) * w..h * w], next());
+}
+
+fn even_row(row: &[Triangle], out: &mut [Triangle]) {
+    out[0] = kept(&row[0]);
+    for (pair, targets) in row.windows(2).zip(out[1..].chunks_exact_mut(2)) {
+        targets[0] = halving::<0>(&pair[0], &pair[1]);
+        targets[1] = kept(&pair[1]);
+    }
+}
+
+fn odd_row(low: &[Triangle], high: &[Triangle], out: &mut [Triangle]) {
+    out[0] = halving::<2>(&high[0], &low[0]);
+    let pairs = low.windows(2).zip(high.windows(2));
+    for ((low, high), targets) in pairs.zip(out[1..].chunks_exact_mut(2)) {
+        targets[0] = halving::<1>(&low[1], &high[0]);
+        targets[1] = halving::<2>(&high[1], &low[1]);
+    }
+}
+
+// Sums are at most 6 times 2^24 in size, so `i32` will do.
+
+fn kept(c: &Triangle) -> Triangle {
+    array::from_fn(|k| {
+        array::from_fn(|x| (3 * c[k][x] + c[0][x] + c[1][x] + c[2][x] + 3).div_euclid(6))
+    })
+}
+
+/// The vertex that halves the edge from A to A + ek; k counts from 0.
+fn halving<const K: usize>(a: &Triangle, b: &Triangle) -> Triangle {
+    let (l, m) = ((K + 1) % 3, (K + 2) % 3);
+    let beside = |c: usize| array::from_fn(|x| (2 * a[K][x] + a[c][x] + b[c][x] + 2) >> 2);
+    let mut new = [[0; 3]; 3];
+    new[K] = array::from_fn(|x| (b[l][x] + b[m][x] + 1) >> 1);
+    new[l] = beside(l);
+    new[m] = beside(m);
+    new
+}

@@ -1,0 +1,72 @@
+-- `listing::main` meets its contract.
+use mathlib.Core.Path.{subst}
+use borrow.Author.Needs.{needs}
+use Rattle.listing_text.specs.declared.files.ListAnswer.{ListAnswer}
+use Rattle.listing_text.specs.Printed.{ReadyToList}
+use Rattle.listing.proofs.main.Statement.{statement}
+use Rattle.listing.proofs.main.Tie as tie
+
+large-buffer-requires : tie.Need-large-buffer-requires
+large-buffer-requires c κs = search needs
+
+slice-aggregate-read-full : tie.Need-slice-aggregate-read-full
+slice-aggregate-read-full c = search needs
+
+read-full-requires : tie.Need-read-full-requires
+read-full-requires c κs = search needs
+
+array-share-prefix-input : tie.Need-array-share-prefix-input
+array-share-prefix-input c = search needs
+
+slice-aggregate-refine-file : tie.Need-slice-aggregate-refine-file
+slice-aggregate-refine-file c = search needs
+
+slice-aggregate-refine-file-2 : tie.Need-slice-aggregate-refine-file-2
+slice-aggregate-refine-file-2 c = search needs
+
+slice-aggregate-refine-file-3 : tie.Need-slice-aggregate-refine-file-3
+slice-aggregate-refine-file-3 c = search needs
+
+refine-file-requires : tie.Need-refine-file-requires
+refine-file-requires c κs = search needs
+
+enum-known-answer : tie.Need-enum-known-answer
+enum-known-answer c = search needs
+
+slice-aggregate-print-listing : tie.Need-slice-aggregate-print-listing
+slice-aggregate-print-listing c = search needs
+
+print-listing-requires : tie.Need-print-listing-requires
+print-listing-requires c κs = subst (λ (r : ListAnswer). ReadyToList r (c .before .before .before .before .before .before .refine-file .last .1 .1 .0)) (c .before .before .answer .given .1) (c .before .before .before .before .before .before .refine-file .ensures .1 .1 .1)
+
+enum-known-answer-2 : tie.Need-enum-known-answer-2
+enum-known-answer-2 c = search needs
+
+print-refusal-requires : tie.Need-print-refusal-requires
+print-refusal-requires c κs = search needs
+
+returns : tie.Need-returns
+returns c = search needs
+
+returns-2 : tie.Need-returns-2
+returns-2 c = search needs
+
+pub main-spec : {M : Type 1} → statement M
+main-spec =
+    tie.close
+    (tie.spec
+    large-buffer-requires
+    slice-aggregate-read-full
+    read-full-requires
+    array-share-prefix-input
+    slice-aggregate-refine-file
+    slice-aggregate-refine-file-2
+    slice-aggregate-refine-file-3
+    refine-file-requires
+    enum-known-answer
+    slice-aggregate-print-listing
+    print-listing-requires
+    enum-known-answer-2
+    print-refusal-requires
+    returns
+    returns-2)

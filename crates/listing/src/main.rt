@@ -1,0 +1,47 @@
+// The listing program: a net file from standard input, refined once, and the points of its vertices as text; or the number of its first fault.
+use libc::STDIN_FILENO;
+use libc::STDOUT_FILENO;
+use listing_text::ListAnswer;
+use listing_text::list_piece;
+use listing_text::list_refusal;
+use listing_text::refine_file;
+ghost use Prim.Native.Nat.{_*_, _≤_};
+ghost use Rattle.subdivision.specs.Promises.{AcceptedNet};
+
+// Piece n of the listing; answers whether it was written.
+fn print_piece(net: &[i32], w: usize, h: usize, n: usize) -> bool
+    requires { ⌜ AcceptedNet (now net) w h × (n ≤ w * h) ⌝ }
+{
+    let mut line = [0u8; 64];
+    let count = list_piece(net, w, h, n, &mut line);
+    io::write_all(STDOUT_FILENO, &line[..count])
+}
+
+// The pieces one after the other. Nothing is printed of a net that is refused: it does not come here.
+fn print_listing(net: &[i32], w: usize, h: usize)
+    requires { ⌜ AcceptedNet (now net) w h ⌝ }
+{
+    let pieces = 1 + w * h;
+    let mut n = 0;
+    while n < pieces && print_piece(net, w, h, n) {
+        n += 1;
+    }
+}
+
+fn print_refusal(n: u32) {
+    let mut line = [0u8; 64];
+    let count = list_refusal(n, &mut line);
+    io::write_all(STDOUT_FILENO, &line[..count]);
+}
+
+fn main() {
+    let mut input = io::large_buffer();
+    let taken = io::read_full(STDIN_FILENO, &mut input);
+    let mut net = [0i32; 16384];
+    let mut refined = [0i32; 16384];
+    let answer = refine_file(&input[..taken], &mut net, &mut refined);
+    match answer {
+        ListAnswer::Net(w, h) => print_listing(&refined, w, h),
+        ListAnswer::Refused(n) => print_refusal(n),
+    }
+}

@@ -1,0 +1,129 @@
+-- From a net file to the refined net: the faults of reading and of refining are one list, and what was read is what is refined.
+use mathlib.Core.Path.{_≡_, sym, ap, subst, _∙_}
+use mathlib.Core.Bool.{Bool}
+use mathlib.Core.List.{List, [], _∷_, _++_}
+use Prim.Native.Nat.{ℕ, _*_, _≤_, _<_}
+use native.Mathlib.Omega.{arith}
+use lib.Dec.{lit<}
+use lib.IntN.{ℤ}
+use lib.ListN.{length, getD}
+use Rattle.exact.specs.Filling.{over, runs}
+use Rattle.exact.proofs.FillingLaws.{runs-same}
+use Rattle.net.specs.Net.{number}
+use Rattle.net.specs.TurnedAway.{Fault}
+use Rattle.net.proofs.Faults.{when-accepted, numbered-append, none-clear, clear-none, clear-parts, fault-before, fault-after, answered}
+use Rattle.surface.specs.SurfacePoint.{OnGrid}
+use Rattle.subdivision.specs.Refinement.{refinedSide, sideAfter}
+use Rattle.subdivision.specs.Promises.{AcceptedNet}
+use Rattle.refine.specs.RefinedNet.{refinedNet, numbersAfter}
+use Rattle.refine.specs.TurnedAway.{tooShort, sizeFaults, netFaults, refineRefusal}
+use Rattle.refine.specs.Steps.{Depth}
+use Rattle.refine.proofs.RefinedPoints.{refine-taken, refined-accepted, refined-coordinate, point-of-refined}
+use Rattle.refine.proofs.CutNets.{cut-refine-refusal, cut-refined}
+use Rattle.netfile.specs.NetFile.{points, fileWidth, fileHeight, fileNumbers}
+use Rattle.netfile.specs.TurnedAway.{headFaults, bodyFaults, readFaults, readRefusal, shortFor}
+use Rattle.netfile.specs.Answers.{answer, readNet}
+use Rattle.netfile.specs.Promises.{Readable}
+use Rattle.netfile.proofs.ReadLaws.{head-numbered, body-numbered}
+use Rattle.netfile.proofs.AcceptedFiles.{front}
+use Rattle.listing_text.specs.Listing.{headLine, pointLine, refusalLine, vertexLine, listing}
+use Rattle.listing_text.specs.Printed.{bufferSize, listTold, listRefusal, refinedFile, ReadyToList}
+use Rattle.listing_text.specs.Promises.{PiecesPrinted}
+use Rattle.listing_text.proofs.PieceLaws.{pieces-list}
+use Rattle.listing_text.specs.declared.files.ListAnswer.{ListAnswer}
+use Rattle.listing_text.specs.declared.files.ListAnswer.the-variants as listed
+
+module _ (file : List ℕ) (lent : List ℤ) (space : ℕ) where
+  abbrev w : ℕ
+  w = fileWidth file
+
+  abbrev h : ℕ
+  h = fileHeight file
+
+  abbrev reading : List Fault
+  reading = readFaults file (shortFor file (length lent))
+
+  abbrev short : Bool
+  short = tooShort w h 1 space 0
+
+  abbrev later : List Fault
+  later = sizeFaults w h 1 ++ netFaults (fileNumbers file) w h short
+
+  -- reading refuses
+  pub refused-reading : {n : ℕ} → n ≡ readRefusal file (shortFor file (length lent)) → (n ≡ 0 → ⊥) → n ≡ listRefusal file (length lent) space
+  refused-reading e there = e ∙ fault-before reading later (λ z. there (e ∙ z))
+
+  -- or it does not: then refining what was read is refused as the file's numbers are
+  module _ (taken : Readable file lent) where
+    pub refusal-after : refineRefusal (readNet file lent) w h 1 short ≡ listRefusal file (length lent) space
+    refusal-after =
+        let n = points w h in
+        let early = shortFor file (length lent) in
+        cut-refine-refusal (readNet file lent) w h short 1
+        ∙ ap (λ (l : List ℤ). refineRefusal l w h 1 short) (front file lent taken)
+        ∙ fault-after reading later
+        (none-clear reading (numbered-append (headFaults file early) (bodyFaults file n) (head-numbered file early) (body-numbered file n)) taken)
+
+    pub refined-after : refinedNet (readNet file lent) w h 1 ≡ refinedFile file
+    refined-after = cut-refined (readNet file lent) w h 1 ∙ ap (λ (l : List ℤ). refinedNet l w h 1) (front file lent taken)
+
+    -- and what is left is a net that is taken
+    pub accepted-after : (refined : List ℤ) → space ≡ length refined → listRefusal file (length lent) space ≡ 0 →
+        AcceptedNet (over (refinedFile file) refined) (refinedSide w) (refinedSide h)
+    accepted-after refined e none =
+        let net = readNet file lent in
+        let t = refine-taken net w h 1 (length refined) 0 (ap (λ (n : ℕ). refineRefusal net w h 1 (tooShort w h 1 n 0)) (sym e) ∙ refusal-after ∙ none) in
+        subst (λ (l : List ℤ). AcceptedNet (over l refined) (refinedSide w) (refinedSide h)) refined-after
+        (refined-accepted net w h 1 refined (t .depth) (t .given) (t .roomy))
+
+-- what an answer tells makes its net ready
+pub ready : (r : ListAnswer) (refusal m n : ℕ) (net : List ℤ) → listTold r ≡ answer refusal (m ∷ n ∷ []) → (refusal ≡ 0 → AcceptedNet net m n) → ReadyToList r net
+ready (listed.Net a b) refusal m n net e f =
+    let q = answered refusal (m ∷ n ∷ []) e in
+    subst (λ (l : List ℕ). AcceptedNet net (getD l 0 0) (getD l 1 0)) (sym (q .1)) (f (q .0))
+ready (listed.Refused k) refusal m n net e f = tt
+
+-- ---- what is printed
+
+-- where nothing is refused, refining the file's numbers is not
+nothing-refused : (file : List ℕ) (room space : ℕ) → listRefusal file room space ≡ 0 →
+    refineRefusal (fileNumbers file) (fileWidth file) (fileHeight file) 1 (tooShort (fileWidth file) (fileHeight file) 1 space 0) ≡ 0
+nothing-refused file room space none =
+    let w = fileWidth file in
+    let h = fileHeight file in
+    let n = points w h in
+    let early = shortFor file room in
+    let reading = readFaults file early in
+    let later = sizeFaults w h 1 ++ netFaults (fileNumbers file) w h (tooShort w h 1 space 0) in
+    let first = numbered-append (headFaults file early) (bodyFaults file n) (head-numbered file early) (body-numbered file n) in
+    let all = none-clear (reading ++ later) (numbered-append reading later first (lit< tt, (lit< tt, (lit< tt, (lit< tt, (lit< tt, tt)))))) none in
+    clear-none later (clear-parts reading later all .1)
+
+-- a line of what is left in the buffer is the refined net's
+line-after : (net : List ℤ) (w h k : ℕ) (out : List ℤ) → Depth w h k → AcceptedNet net w h → numbersAfter k w h ≤ length out → (i j : ℕ) → i < sideAfter k w → j < sideAfter k h →
+    vertexLine (over (refinedNet net w h k) out) (sideAfter k w) (sideAfter k h) i j ≡ vertexLine (refinedNet net w h k) (sideAfter k w) (sideAfter k h) i j
+line-after net w h k out d a r i j u v =
+    let place : OnGrid 1024 (sideAfter k w) (sideAfter k h) (1024 * i) (1024 * j) = (omega (arith, u), omega (arith, v)) in
+    let point = point-of-refined net w h k out d a r (1024 * i) (1024 * j) place in
+    let at = refined-coordinate net w h k out d a r (1024 * i) (1024 * j) place in
+    λ t. pointLine i j
+    ((at 0 (lit< tt) ∙ ap (λ (l : List ℤ). number l 0) point) t)
+    ((at 1 (lit< tt) ∙ ap (λ (l : List ℤ). number l 1) point) t)
+    ((at 2 (lit< tt) ∙ ap (λ (l : List ℤ). number l 2) point) t)
+
+pub pieces-printed : PiecesPrinted
+unfolding listing
+pieces-printed file buffer long none =
+    let w = fileWidth file in
+    let h = fileHeight file in
+    let t = refine-taken (fileNumbers file) w h 1 bufferSize 0 (nothing-refused file bufferSize bufferSize none) in
+    let room : numbersAfter 1 w h ≤ length buffer = omega (arith, t .roomy, long) in
+    let left = over (refinedFile file) buffer in
+    let wide = refinedSide w in
+    let high = refinedSide h in
+    pieces-list left wide high
+    ∙ ap (λ (l : List ℕ). headLine wide high ++ l)
+    (runs-same high (λ j. runs wide (λ i. vertexLine left wide high i j)) (λ j. runs wide (λ i. vertexLine (refinedFile file) wide high i j)) (λ j v.
+    runs-same wide (λ i. vertexLine left wide high i j) (λ i. vertexLine (refinedFile file) wide high i j) (λ i u.
+    line-after (fileNumbers file) w h 1 buffer (t .depth) (t .given) room i j u v)))
+    ∙ when-accepted (listRefusal file bufferSize bufferSize) (listing (refinedFile file) wide high) (refusalLine (listRefusal file bufferSize bufferSize)) none

@@ -1,0 +1,35 @@
+-- What the calls answer and leave in lent memory, where nothing is refused and where something is.
+use mathlib.Core.Path.{_≡_, refl, sym, subst, _∙_}
+use mathlib.Core.Bool.{Bool, true, false}
+use mathlib.Core.List.{List}
+use Prim.Native.Nat.{ℕ}
+use lib.IntN.{ℤ}
+use borrow.Author.Tests.{ne-eqb}
+use Rattle.exact.specs.Filling.{over}
+use Rattle.net.specs.TurnedAway.{accepted, outputAfter}
+use Rattle.net.proofs.Faults.{when-accepted, when-refused}
+use Rattle.refine.specs.RefinedNet.{scratchNeed}
+use Rattle.refine.specs.Answers.{freeScratch, KeptFrom}
+
+-- what stands in the output and in the scratch
+abbrev pub Left : ℕ → ℕ → ℕ → ℕ → (result out scratch out′ scratch′ : List ℤ) → Type 0
+Left refusal k w h result out scratch out′ scratch′ =
+    (out′ ≡ outputAfter refusal result out) × KeptFrom (freeScratch refusal k w h) scratch scratch′
+
+module _ (refusal k w h : ℕ) (result out scratch : List ℤ) where
+  pub left-accepted : {out′ : List ℤ} (scratch′ : List ℤ) → refusal ≡ 0 → out′ ≡ over result out → KeptFrom (scratchNeed k w h) scratch scratch′ →
+      Left refusal k w h result out scratch out′ scratch′
+  left-accepted scratch′ e o s = (
+    o ∙ when-accepted refusal (over result out) out e,
+    subst (λ (n : ℕ). KeptFrom n scratch scratch′) (when-accepted refusal (scratchNeed k w h) 0 e) s,
+  )
+
+  pub left-refused : (refusal ≡ 0 → ⊥) → Left refusal k w h result out scratch out scratch
+  left-refused there = (when-refused refusal (over result out) out there, (refl, refl))
+
+-- the number, and whether the call was carried out
+pub carried-out : (refusal : ℕ) → refusal ≡ 0 → _≡_ {A = ℕ × Bool} (0, true) (refusal, accepted refusal)
+carried-out refusal e = λ t. (sym e t, accepted (sym e t))
+
+pub not-carried-out : (refusal : ℕ) {n : ℕ} → n ≡ refusal → (n ≡ 0 → ⊥) → _≡_ {A = ℕ × Bool} (n, false) (refusal, accepted refusal)
+not-carried-out refusal e there = λ t. (e t, sym (ne-eqb refusal 0 (λ z. there (e ∙ z))) t)

@@ -1,0 +1,197 @@
+-- Demand 3 of the calls: what refining leaves in the output is a net that is taken, its surface points are those of the refined fields, and so they are near
+-- the exact spline of the starting net and within its control values.
+use mathlib.Core.Path.{_≡_, refl, sym, ap, subst, _∙_}
+use mathlib.Core.Bool.{Bool, false, _||_}
+use mathlib.Core.List.{List, [], _∷_, _++_}
+use Prim.Native.Nat.{ℕ, zero, suc, _≤_, _<_}
+use native.Mathlib.Omega.{arith}
+use lib.Dec.{ltb, lit<}
+use lib.IntN.{ℤ, natAbs}
+use lib.ListN.{length, take}
+use borrow.Author.Tests.{ltb-false, le-ltb}
+use Rattle.exact.specs.Rounding.{rounded}
+use Rattle.exact.specs.Filling.{over}
+use Rattle.exact.proofs.FillingLaws.{length-over, take-over}
+use Rattle.net.specs.Net.{Index, one, two, three, Vertex, vertexAt, Field, corner, numbers, number, field}
+use Rattle.net.specs.TurnedAway.{badSize, shortNet, beyond, anyBeyond}
+use Rattle.net.proofs.Beyond.{cut}
+use Rattle.net.proofs.Faults.{none-clear, or-none, or-no, when-accepted, answered, accepted-answer}
+use Rattle.net.proofs.Ranges.{any-append, any-runs}
+use Rattle.surface.specs.SurfacePoint.{OnGrid, chosen, share, orderOf, valueIn, spline, coordinate, surfacePoint}
+use Rattle.surface.specs.TurnedAway.{pointRefusal}
+use Rattle.surface.specs.Answers.{pointAnswer}
+use Rattle.surface.proofs.Beyond.{cut-point-answer}
+use Rattle.surface.proofs.Cells.{on-grid}
+use Rattle.surface.proofs.SurfacePoints.{accepted-point}
+use Rattle.subdivision.specs.Refinement.{sideAfter, refinements}
+use Rattle.subdivision.specs.WeightTable.{weights, weights-pass}
+use Rattle.subdivision.specs.Promises.{AcceptedNet}
+use Rattle.subdivision.specs.DemandThree.{refinedCoordinate, NearSpline, WithinControls}
+use Rattle.subdivision.proofs.SameSpline.{side-at-least}
+use Rattle.subdivision.proofs.Distance.{our-nets}
+use Rattle.subdivision.proofs.DemandThree.{demand-three, refined-in-range}
+use Rattle.subdivision.proofs.Accepted.{corner-in-net, good-sides, point-not-refused}
+use Rattle.refine.specs.RefinedNet.{Fields, pointAt, vertexRun, rowRun, stored, refinedNet, numbersAfter, scratchNeed}
+use Rattle.refine.specs.TurnedAway.{tooDeep, tooShort, sizeFaults, netFaults, refineRefusal, offGrid, refinedPointRefusal}
+use Rattle.refine.specs.Answers.{refusalOf, refinedPointAnswer}
+use Rattle.refine.specs.Steps.{Depth}
+use Rattle.refine.specs.DemandThree.{Kept, RefinedPoints}
+use Rattle.refine.proofs.Sides.{good-depth}
+use Rattle.refine.proofs.StoredNets.{stored-field, refined-length}
+
+-- ---- where nothing is refused
+
+pub record Taken (net : List ℤ) (w h k room spare : ℕ) : Type 0 where
+  pub depth : Depth w h k
+  pub given : AcceptedNet net w h
+  pub roomy : numbersAfter k w h ≤ room
+  pub enough : scratchNeed k w h ≤ spare
+
+taken-by : (net : List ℤ) (w h k room spare : ℕ) → badSize w h ≡ false → tooDeep w h k ≡ false → shortNet net w h ≡ false →
+    tooShort w h k room spare ≡ false → anyBeyond (take (numbers w h) net) ≡ false → Taken net w h k room spare
+taken-by net w h k room spare e₁ e₄ e₂ e₅ e₃ =
+    let r = or-none (ltb room (numbersAfter k w h)) (ltb spare (scratchNeed k w h)) e₅ in
+    record {
+      depth = good-depth w h k e₁ e₄;
+      given = record { size = e₁; long = e₂; inRange = e₃ };
+      roomy = ltb-false _ _ (r .0);
+      enough = ltb-false _ _ (r .1);
+    }
+
+pub refine-taken : (net : List ℤ) (w h k room spare : ℕ) → refineRefusal net w h k (tooShort w h k room spare) ≡ 0 → Taken net w h k room spare
+refine-taken net w h k room spare e =
+    let c = none-clear (sizeFaults w h k ++ netFaults net w h (tooShort w h k room spare)) (lit< tt, (lit< tt, (lit< tt, (lit< tt, (lit< tt, tt))))) e in
+    taken-by net w h k room spare (c .0) (c .1 .0) (c .1 .1 .0) (c .1 .1 .1 .0) (c .1 .1 .1 .1 .0)
+
+pub point-taken : (net : List ℤ) (w h k p q : ℕ) (short : Bool) (room spare : ℕ) → refinedPointRefusal net w h k p q (short || tooShort w h k room spare) ≡ 0 →
+    Taken net w h k room spare × OnGrid 1024 (sideAfter k w) (sideAfter k h) p q × (short ≡ false)
+point-taken net w h k p q short room spare e =
+    let c = none-clear (sizeFaults w h k ++ (offGrid w h k p q, 6) ∷ netFaults net w h (short || tooShort w h k room spare)) (lit< tt, (lit< tt, (lit< tt, (lit< tt, (lit< tt, (lit< tt, tt)))))) e in
+    let r = or-none short (tooShort w h k room spare) (c .1 .1 .1 .1 .0) in
+    (taken-by net w h k room spare (c .0) (c .1 .0) (c .1 .1 .1 .0) (r .1) (c .1 .1 .1 .1 .1 .0), on-grid 1024 (sideAfter k w) (sideAfter k h) p q (c .1 .1 .0), r .0)
+
+-- ---- what refining leaves in the output is a net that is taken
+
+-- the nine numbers of a vertex, and all numbers of a stored net, in range
+abbrev Fine : Fields → Vertex → Type 0
+Fine F v = (x : ℕ) → x < 3 → (l : Index) → natAbs (F x v l) ≤ 16777216
+
+point-fine : (F : Fields) (v : Vertex) → Fine F v → (l : Index) → anyBeyond (pointAt F v l) ≡ false
+point-fine F v f l =
+    let fine : (x : ℕ) → x < 3 → beyond (F x v l) ≡ false = λ x c. le-ltb 16777216 (natAbs (F x v l)) (f x c l) in
+    sym (or-no _ _ (fine 0 (lit< tt)) (or-no _ _ (fine 1 (lit< tt)) (or-no _ _ (fine 2 (lit< tt)) refl)))
+
+vertex-fine : (F : Fields) (v : Vertex) → Fine F v → anyBeyond (vertexRun F v) ≡ false
+vertex-fine F v f =
+    any-append (pointAt F v one ++ pointAt F v two) (pointAt F v three)
+    ∙ sym (or-no _ _ (any-append (pointAt F v one) (pointAt F v two) ∙ sym (or-no _ _ (point-fine F v f one) (sym (point-fine F v f two)))) (sym (point-fine F v f three)))
+
+stored-fine : (F : Fields) (w h : ℕ) → ((i j : ℕ) → i < w → j < h → Fine F (vertexAt i j)) → anyBeyond (stored F w h) ≡ false
+unfolding stored
+stored-fine F w h f = any-runs h (rowRun F w) (λ j b. any-runs w (λ i. vertexRun F (vertexAt i j)) (λ i a. vertex-fine F (vertexAt i j) (f i j a b)))
+
+module _ (net : List ℤ) (w h k : ℕ) (out : List ℤ) (depth : Depth w h k) (given : AcceptedNet net w h) (roomy : numbersAfter k w h ≤ length out) where
+  abbrev wide : ℕ
+  wide = sideAfter k w
+
+  abbrev high : ℕ
+  high = sideAfter k h
+
+  abbrev fields : Fields
+  fields x = refinements k (field net w x)
+
+  abbrev left : List ℤ
+  left = over (refinedNet net w h k) out
+
+  size : badSize wide high ≡ false
+  size = good-sides wide high (side-at-least k w (depth .wide)) (depth .narrow) (side-at-least k h (depth .high)) (depth .low)
+
+  in-range : anyBeyond (refinedNet net w h k) ≡ false
+  unfolding refinedNet
+  in-range =
+      stored-fine fields wide high (λ i j a b x c l.
+      subst (λ (F : Field). natAbs (F (vertexAt i j) l) ≤ 16777216) (our-nets k (field net w x)) (refined-in-range weights weights-pass net w h given k i j x c a b l))
+
+  front : cut left wide high ≡ refinedNet net w h k
+  front =
+      ap (λ (n : ℕ). take n left) (sym (refined-length net w h k)) ∙ take-over (refinedNet net w h k) out
+
+  pub refined-accepted : AcceptedNet left wide high
+  refined-accepted =
+      let fits : length (refinedNet net w h k) ≤ length out = omega (arith, refined-length net w h k, roomy) in
+      record {
+        size = size;
+        long = le-ltb (length left) (numbers wide high) (omega (arith, length-over (refinedNet net w h k) out fits, roomy));
+        inRange = ap anyBeyond front ∙ in-range;
+      }
+
+  -- ---- its surface points are those of the refined fields
+
+  module _ (p q : ℕ) (place : OnGrid 1024 wide high p q) where
+    pub refined-coordinate : (x : ℕ) → x < 3 → coordinate left wide high p q x ≡ refinedCoordinate (field net w x) w h k p q
+    unfolding coordinate spline refinedNet
+    refined-coordinate x c =
+        let t = chosen 1024 wide high p q in
+        let s = share 1024 wide high p q in
+        let at : (P l : Index) → field left wide x (corner t P) l ≡ fields x (corner t P) l =
+        λ P l.
+        let v = corner t P in
+        let n = corner-in-net wide high p q size place P in
+        stored-field fields wide high out (v .column) (v .row) (n .0) (n .1) l x c in
+        λ i. rounded (valueIn (t .down) (λ P l. at P l i) (orderOf s) s) 37748736
+
+    -- the point's three coordinates
+    abbrev coordinates : List ℤ
+    coordinates =
+        refinedCoordinate (field net w 0) w h k p q ∷ refinedCoordinate (field net w 1) w h k p q ∷ refinedCoordinate (field net w 2) w h k p q ∷ []
+
+    pub point-answered : (0, coordinates) ≡ pointAnswer left wide high p q
+    point-answered =
+        accepted-point left wide high p q (sym (point-not-refused left wide high refined-accepted p q place))
+        (sym (refined-coordinate 0 (lit< tt))) (sym (refined-coordinate 1 (lit< tt))) (sym (refined-coordinate 2 (lit< tt)))
+
+    -- of the refined net alone, without what stands after it
+    pub point-of-refined : coordinates ≡ surfacePoint (refinedNet net w h k) wide high p q
+    unfolding pointAnswer
+    point-of-refined =
+        answered (pointRefusal (refinedNet net w h k) wide high p q) (surfacePoint (refinedNet net w h k) wide high p q)
+        (point-answered ∙ cut-point-answer left wide high p q ∙ ap (λ (l : List ℤ). pointAnswer l wide high p q) front) .1
+
+    pub kept : Kept net w h k p q (0, coordinates)
+    kept =
+        let each : (x : ℕ) → x < 3 → refinedCoordinate (field net w x) w h k p q ≡ number coordinates x = three-numbers (λ x. refinedCoordinate (field net w x) w h k p q) in
+        record {
+          answered = refl;
+          point = refl;
+          near = λ x c. subst (λ (z : ℤ). NearSpline (field net w x) w h k p q z) (each x c) (demand-three net w h given k p q x c place .0);
+          within = λ x c t o l. subst (λ (z : ℤ). WithinControls (field net w x) t z) (each x c) (demand-three net w h given k p q x c place .1 t o l);
+        }
+      where
+        three-numbers : (f : ℕ → ℤ) (x : ℕ) → x < 3 → f x ≡ number (f 0 ∷ f 1 ∷ f 2 ∷ []) x
+        three-numbers f zero c = refl
+        three-numbers f (suc zero) c = refl
+        three-numbers f (suc (suc zero)) c = refl
+        three-numbers f (suc (suc (suc x))) c = absurd (omega (arith, c))
+
+-- ---- demand 3
+
+pub refined-points : RefinedPoints
+refined-points net w h k out scratch e p q place =
+    let t = refine-taken net w h k (length out) (length scratch) e in
+    subst (Kept net w h k p q)
+    (point-answered net w h k out (t .depth) (t .given) (t .roomy) p q place
+    ∙ ap (λ (l : List ℤ). pointAnswer l (sideAfter k w) (sideAfter k h) p q) (when-accepted (refusalOf net w h k out scratch) (over (refinedNet net w h k) out) out e))
+    (kept net w h k out (t .depth) (t .given) (t .roomy) p q place)
+
+-- of the answer of the call that does both
+pub answer-kept : (net : List ℤ) (w h k p q : ℕ) (out scratch : List ℤ) {told : ℕ × List ℤ} →
+    (let short = tooShort w h k (length out) (length scratch) in
+    refinedPointRefusal net w h k p q short ≡ 0 → told ≡ refinedPointAnswer net w h k p q short → Kept net w h k p q told)
+answer-kept net w h k p q out scratch none e =
+    let t = point-taken net w h k p q false (length out) (length scratch) none in
+    let short = tooShort w h k (length out) (length scratch) in
+    subst (Kept net w h k p q)
+    (accepted-answer (refinedPointRefusal net w h k p q short) (surfacePoint (refinedNet net w h k) (sideAfter k w) (sideAfter k h) p q) none
+    (point-of-refined net w h k out (t .0 .depth) (t .0 .given) (t .0 .roomy) p q (t .1))
+    ∙ sym e)
+    (kept net w h k out (t .0 .depth) (t .0 .given) (t .0 .roomy) p q (t .1))

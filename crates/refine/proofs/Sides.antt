@@ -1,0 +1,87 @@
+-- Sides after k steps: how they grow, and what is known where 1 and 4 do not refuse.
+use mathlib.Core.Path.{_≡_, sym, ap, subst}
+use mathlib.Core.Bool.{false, _||_}
+use Prim.Native.Nat.{ℕ, zero, suc, _-_, _*_, _^_, _≤_}
+use native.Mathlib.Nat.{le-refl, le-trans, mul-le-mul, pow-suc, pow-le-pow-right}
+use native.Mathlib.Omega.{arith}
+use lib.Dec.{ltb, lit<}
+use borrow.Author.Tests.{ltb-false, le-ltb}
+use Rattle.net.specs.TurnedAway.{badSize}
+use Rattle.net.proofs.Faults.{or-none, or-no}
+use Rattle.net.proofs.Places.{good-size}
+use Rattle.subdivision.specs.Refinement.{refinedSide, sideAfter}
+use Rattle.refine.specs.TurnedAway.{tooDeep}
+use Rattle.refine.specs.Steps.{Depth}
+
+-- a side at most doubles at each step
+side-doubles : (k n : ℕ) → sideAfter k n ≤ n * 2 ^ k
+side-doubles zero n = omega arith
+side-doubles (suc k) n = omega (arith, side-doubles k n, ap (λ (m : ℕ). n * m) (pow-suc 2 k))
+
+pub side-small : (k n : ℕ) → n ≤ 1025 → k ≤ 6 → sideAfter k n ≤ 65600
+side-small k n a b = le-trans (side-doubles k n) (mul-le-mul a (pow-le-pow-right {n = 2} (lit< tt) b))
+
+-- and never shrinks
+pub side-grows : (k n : ℕ) → 1 ≤ n → n ≤ sideAfter k n
+side-grows zero n a = le-refl n
+side-grows (suc k) n a = omega (arith, side-grows k n a)
+
+pub side-before : (k n : ℕ) → 1 ≤ n → sideAfter (k - 1) n ≤ sideAfter k n
+side-before zero n a = le-refl n
+side-before (suc k) n a =
+    let last : k ≡ suc k - 1 = omega arith in
+    subst (λ (m : ℕ). sideAfter m n ≤ sideAfter (suc k) n) last (omega (arith, side-grows k n a))
+
+-- the last step
+pub side-last : (k n : ℕ) → 1 ≤ k → refinedSide (sideAfter (k - 1) n) ≡ sideAfter k n
+side-last zero n a = absurd (omega (arith, a))
+side-last (suc k) n a =
+    let last : suc k - 1 ≡ k = omega arith in
+    ap (λ (m : ℕ). refinedSide (sideAfter m n)) last
+
+-- a side and a number of steps that `side_after` takes
+abbrev pub SideReady : ℕ → ℕ → Type 0
+SideReady n k = (1 ≤ n) × (n ≤ 1025) × (k ≤ 6)
+
+pub good-depth : (w h k : ℕ) → badSize w h ≡ false → tooDeep w h k ≡ false → Depth w h k
+good-depth w h k e f =
+    let size = good-size w h e in
+    let g = or-none (ltb 6 k) (ltb 1025 (sideAfter k w) || ltb 1025 (sideAfter k h)) f in
+    let sides = or-none (ltb 1025 (sideAfter k w)) (ltb 1025 (sideAfter k h)) (g .1) in
+    record {
+      few = ltb-false 6 k (g .0);
+      wide = size .wide;
+      narrow = ltb-false 1025 (sideAfter k w) (sides .0);
+      high = size .high;
+      low = ltb-false 1025 (sideAfter k h) (sides .1);
+    }
+
+pub wide-ready : {w h k : ℕ} → Depth w h k → SideReady w k
+wide-ready {w} {h} {k} g =
+    let more : 1 ≤ w = omega (arith, g .wide) in
+    (more, le-trans (side-grows k w more) (g .narrow), g .few)
+
+pub high-ready : {w h k : ℕ} → Depth w h k → SideReady h k
+high-ready {w} {h} {k} g =
+    let more : 1 ≤ h = omega (arith, g .high) in
+    (more, le-trans (side-grows k h more) (g .low), g .few)
+
+-- one step less is not refused either
+pub shallower : {w h k : ℕ} → Depth w h k → Depth w h (k - 1)
+shallower {w} {h} {k} g =
+    record {
+      few = omega (arith, g .few);
+      wide = g .wide;
+      narrow = le-trans (side-before k w (wide-ready g .0)) (g .narrow);
+      high = g .high;
+      low = le-trans (side-before k h (high-ready g .0)) (g .low);
+    }
+
+pub not-deep : {w h k : ℕ} → Depth w h k → tooDeep w h k ≡ false
+not-deep {w} {h} {k} g =
+    sym (or-no (ltb 6 k) _ (le-ltb 6 k (g .few))
+    (or-no (ltb 1025 (sideAfter k w)) (ltb 1025 (sideAfter k h)) (le-ltb 1025 (sideAfter k w) (g .narrow)) (sym (le-ltb 1025 (sideAfter k h) (g .low)))))
+
+-- the numbers of the net after k steps are few
+pub few-after : {w h k : ℕ} → Depth w h k → sideAfter k w * sideAfter k h ≤ 1050625
+few-after g = mul-le-mul (g .narrow) (g .low)

@@ -1,0 +1,24 @@
+-- `refine::points::refined_point` meets its contract.
+use borrow.Author.Needs.{needs}
+use Rattle.refine.proofs.RefinedPoints.{answer-kept}
+use Rattle.refine.proofs.points.refined_point.Statement.{statement}
+use Rattle.refine.proofs.points.refined_point.Tie as tie
+
+refined-point-with-requires : tie.Need-refined-point-with-requires
+refined-point-with-requires c κs = search needs
+
+same-length : tie.Need-same-length
+same-length c = search needs
+
+same-length-2 : tie.Need-same-length-2
+same-length-2 c = search needs
+
+returns : tie.Need-returns
+returns c =
+    let s = c .before .before .before .before .before in
+    let e = c .before .before .refined-point-with .ensures in
+    (e .0, (e .1 .0, (e .1 .1, λ none. answer-kept (s .args .net .now) (s .args .w) (s .args .h) (s .args .k) (s .args .p) (s .args .q) (s .args .out .now) (s .args .scratch .now) none (e .0))))
+
+pub refined-point-spec : {M : Type 1} → statement M
+refined-point-spec =
+    tie.close (tie.spec refined-point-with-requires same-length same-length-2 returns)

@@ -1,0 +1,104 @@
+-- `refine::points::refined_point_with` meets its contract.
+use mathlib.Core.Path.{_≡_, sym, _∙_}
+use mathlib.Core.Bool.{false, _||_}
+use mathlib.Core.List.{List}
+use Prim.Native.Nat.{ℕ}
+use lib.IntN.{ℤ}
+use lib.ListN.{length}
+use borrow.Author.Needs.{needs}
+use borrow.Author.Tests.{ltb-false}
+use Rattle.net.proofs.Faults.{accepted-answer, refused-answer}
+use Rattle.surface.specs.SurfacePoint.{OnGrid, surfacePoint}
+use Rattle.surface.specs.Answers.{pointAnswer}
+use Rattle.subdivision.specs.Refinement.{sideAfter}
+use Rattle.refine.specs.RefinedNet.{refinedNet}
+use Rattle.refine.specs.TurnedAway.{tooShort, refinedPointRefusal}
+use Rattle.refine.proofs.Sides.{wide-ready, high-ready}
+use Rattle.refine.proofs.RefinedPoints.{Taken, point-taken, point-answered, point-of-refined}
+use Rattle.refine.proofs.CallLaws.{left-accepted, left-refused}
+use Rattle.refine.proofs.points.refined_point_with.Statement.{statement}
+use Rattle.refine.proofs.points.refined_point_with.Tie as tie
+
+abbrev refusal : tie.Start → ℕ
+refusal s =
+    refinedPointRefusal (s .args .net .now) (s .args .w) (s .args .h) (s .args .k) (s .args .p) (s .args .q)
+    (s .args .short || tooShort (s .args .w) (s .args .h) (s .args .k) (length (s .args .out .now)) (length (s .args .scratch .now)))
+
+abbrev result : tie.Start → List ℤ
+result s = refinedNet (s .args .net .now) (s .args .w) (s .args .h) (s .args .k)
+
+-- nothing is refused
+module _ (c : tie.Else1) where
+  none : refusal (c .before .before) ≡ 0
+  none = sym (c .before .refusal-at .ensures) ∙ c .if1 .left
+
+  taken :
+      (let s = c .before .before in
+      Taken (s .args .net .now) (s .args .w) (s .args .h) (s .args .k) (length (s .args .out .now)) (length (s .args .scratch .now))
+      × OnGrid 1024 (sideAfter (s .args .k) (s .args .w)) (sideAfter (s .args .k) (s .args .h)) (s .args .p) (s .args .q)
+      × (s .args .short ≡ false))
+  taken =
+      let s = c .before .before in
+      point-taken (s .args .net .now) (s .args .w) (s .args .h) (s .args .k) (s .args .p) (s .args .q) (s .args .short) (length (s .args .out .now)) (length (s .args .scratch .now)) none
+
+refusal-at-requires : tie.Need-refusal-at-requires
+refusal-at-requires c κs = search needs
+
+returns : tie.Need-returns
+returns c =
+    let s = c .before .before in
+    let e = c .before .refusal-at .ensures in (
+      refused-answer (refusal s) (surfacePoint (result s) (sideAfter (s .args .k) (s .args .w)) (sideAfter (s .args .k) (s .args .h)) (s .args .p) (s .args .q)) e (c .if1 .taken),
+      left-refused (refusal s) (s .args .k) (s .args .w) (s .args .h) (result s) (s .args .out .now) (s .args .scratch .now) (λ z. c .if1 .taken (e ∙ z)),
+    )
+
+refine-steps-requires : tie.Need-refine-steps-requires
+refine-steps-requires c κs =
+    let t = taken (c .before .before) .0 in
+    (t .depth, ltb-false _ _ (t .given .long), t .roomy, t .enough)
+
+side-after-requires : tie.Need-side-after-requires
+side-after-requires c κs = wide-ready (taken (c .before .before .before .before .before) .0 .depth)
+
+side-after-requires-2 : tie.Need-side-after-requires-2
+side-after-requires-2 c κs = high-ready (taken (c .before .before .before .before .before .before) .0 .depth)
+
+surface-point-requires : tie.Need-surface-point-requires
+surface-point-requires c κs = search needs
+
+same-length : tie.Need-same-length
+same-length c = search needs
+
+same-length-2 : tie.Need-same-length-2
+same-length-2 c = search needs
+
+returns-2 : tie.Need-returns-2
+returns-2 c =
+    let e = c .before .before .before .before .before .before .before .before .before in
+    let s = e .before .before in
+    let t = taken e in
+    let net = s .args .net .now in
+    let wide = sideAfter (s .args .k) (s .args .w) in
+    let high = sideAfter (s .args .k) (s .args .h) in
+    let steps = c .before .before .before .before .before .before .refine-steps .ensures in
+    let told =
+    c .surface-point .ensures
+    ∙ (λ i. pointAnswer (steps .0 i) (c .before .before .before .side-after .ensures i) (c .before .before .side-after2 .ensures i) (s .args .p) (s .args .q))
+    ∙ sym (point-answered net (s .args .w) (s .args .h) (s .args .k) (s .args .out .now) (t .0 .depth) (t .0 .given) (t .0 .roomy) (s .args .p) (s .args .q) (t .1)) in (
+      told ∙ accepted-answer (refusal s) (surfacePoint (result s) wide high (s .args .p) (s .args .q)) (none e) (point-of-refined net (s .args .w) (s .args .h) (s .args .k) (s .args .out .now) (t .0 .depth) (t .0 .given) (t .0 .roomy) (s .args .p) (s .args .q) (t .1)),
+      left-accepted (refusal s) (s .args .k) (s .args .w) (s .args .h) (result s) (s .args .out .now) (s .args .scratch .now) (c .before .before .before .before .before .before .refine-steps .last .1 .1 .1 .1 .1 .0) (none e) (steps .0) (steps .1),
+    )
+
+pub refined-point-with-spec : {M : Type 1} → statement M
+refined-point-with-spec =
+    tie.close
+    (tie.spec
+    refusal-at-requires
+    returns
+    refine-steps-requires
+    side-after-requires
+    side-after-requires-2
+    surface-point-requires
+    same-length
+    same-length-2
+    returns-2)

@@ -1,0 +1,163 @@
+-- `refine::steps::+refine_steps` meets its contract.
+use mathlib.Core.Path.{refl, _∙_}
+use Prim.Native.Nat.{ℕ, _<_, _-_, _≤_}
+use native.Mathlib.Omega.{arith}
+use borrow.Fn.Kinds.{In}
+use borrow.Fn.PlainCycle.{Measures, is, falls, and}
+use borrow.Author.Needs.{needs}
+use Rattle.exact.specs.Filling.{over}
+use Rattle.subdivision.specs.Refinement.{sideAfter}
+use Rattle.refine.specs.RefinedNet.{refinedNet}
+use Rattle.refine.proofs.steps.+refine_steps.{statement}
+use Rattle.refine.proofs.steps.+refine_steps.Tie.{close}
+use Rattle.refine.proofs.Sides.{shallower}
+use Rattle.refine.proofs.StepLaws.{scratch-needed, scratch-before, output-after, scratch-after}
+use Rattle.refine.proofs.steps.refine_steps.Reads as refine-steps
+use Rattle.refine.proofs.steps.refine_steps.Kinds as refine-steps-kinds
+use Rattle.refine.proofs.steps.+refine_steps.Lts-refine_steps as refine-steps-lts
+use Rattle.refine.proofs.steps.few_steps.Reads as few-steps-reads
+use Rattle.refine.proofs.steps.last_step.Reads as last-step-reads
+
+abbrev μ-refine-steps : Measures 3 refine-steps-kinds.ps ℕ
+μ-refine-steps κs a = a .1 .1 .1 .0
+
+abbrev refine-steps-at : ℕ → In 3 refine-steps-kinds.ps
+refine-steps-at t =
+    and 3 refine-steps-kinds.ps (is 3 refine-steps-kinds.ps μ-refine-steps t) refine-steps.Pre
+
+abbrev refine-steps-below : ℕ → In 3 refine-steps-kinds.ps
+refine-steps-below t =
+    and
+    3
+    refine-steps-kinds.ps
+    (falls 3 refine-steps-kinds.ps _<_ μ-refine-steps t)
+    refine-steps.Pre
+
+refine-steps-few-steps-requires : (t : ℕ) → refine-steps-lts.Need-few-steps-requires (
+  few-steps-reads.Asked,
+  few-steps-reads.Learnt,
+  refine-steps-below t,
+  refine-steps.Post,
+  last-step-reads.Asked,
+  last-step-reads.Learnt,
+) (refine-steps-at t) refine-steps.Post
+refine-steps-few-steps-requires t c κs =
+    let s = c .before .before in
+    (c .before .if1 .taken, s .pre .1 .0, s .pre .1 .1, s .pre .1 .2)
+
+refine-steps-sub-refine-steps : (t : ℕ) → refine-steps-lts.Need-sub-refine-steps (
+  few-steps-reads.Asked,
+  few-steps-reads.Learnt,
+  refine-steps-below t,
+  refine-steps.Post,
+  last-step-reads.Asked,
+  last-step-reads.Learnt,
+) (refine-steps-at t) refine-steps.Post
+refine-steps-sub-refine-steps t c = omega (arith, c .if1 .left)
+
+refine-steps-refine-steps-requires : (t : ℕ) → refine-steps-lts.Need-refine-steps-requires (
+  few-steps-reads.Asked,
+  few-steps-reads.Learnt,
+  refine-steps-below t,
+  refine-steps.Post,
+  last-step-reads.Asked,
+  last-step-reads.Learnt,
+) (refine-steps-at t) refine-steps.Post
+refine-steps-refine-steps-requires t c κs =
+    let s = c .before .before .before in
+    let two : 2 ≤ s .args .k = c .before .before .if1 .left in
+    (omega (arith, s .pre .0, two), (shallower (s .pre .1 .0), s .pre .1 .1, omega (arith, scratch-needed (s .args .k) (s .args .w) (s .args .h) two, s .pre .1 .3), omega (arith, scratch-before (s .pre .1 .0), s .pre .1 .2)))
+
+refine-steps-last-step-requires : (t : ℕ) → refine-steps-lts.Need-last-step-requires (
+  few-steps-reads.Asked,
+  few-steps-reads.Learnt,
+  refine-steps-below t,
+  refine-steps.Post,
+  last-step-reads.Asked,
+  last-step-reads.Learnt,
+) (refine-steps-at t) refine-steps.Post
+refine-steps-last-step-requires t c κs =
+    let s = c .before .before .before .before .before .before .before .before in
+    let two : 2 ≤ s .args .k = c .before .before .before .before .before .before .before .if1 .left in
+    let before = c .before .before .before .before .refine-steps .ensures in
+    let size = scratch-after (s .args .net .now) (s .args .scratch .now) (s .args .w) (s .args .h) (s .args .k) two (s .pre .1 .3) (before .0) in
+    (omega arith, s .pre .1 .0, omega (arith, scratch-needed (s .args .k) (s .args .w) (s .args .h) two, s .pre .1 .3, size .0), omega (arith, s .pre .1 .2, before .1 .0))
+
+refine-steps-same-length : (t : ℕ) → refine-steps-lts.Need-same-length (
+  few-steps-reads.Asked,
+  few-steps-reads.Learnt,
+  refine-steps-below t,
+  refine-steps.Post,
+  last-step-reads.Asked,
+  last-step-reads.Learnt,
+) (refine-steps-at t) refine-steps.Post
+refine-steps-same-length t c = search needs
+
+refine-steps-returns : (t : ℕ) → refine-steps-lts.Need-returns (
+  few-steps-reads.Asked,
+  few-steps-reads.Learnt,
+  refine-steps-below t,
+  refine-steps.Post,
+  last-step-reads.Asked,
+  last-step-reads.Learnt,
+) (refine-steps-at t) refine-steps.Post
+refine-steps-returns t c = (c .before .few-steps .ensures, (refl, refl))
+
+refine-steps-same-length-2 : (t : ℕ) → refine-steps-lts.Need-same-length-2 (
+  few-steps-reads.Asked,
+  few-steps-reads.Learnt,
+  refine-steps-below t,
+  refine-steps.Post,
+  last-step-reads.Asked,
+  last-step-reads.Learnt,
+) (refine-steps-at t) refine-steps.Post
+refine-steps-same-length-2 t c = search needs
+
+refine-steps-same-length-3 : (t : ℕ) → refine-steps-lts.Need-same-length-3 (
+  few-steps-reads.Asked,
+  few-steps-reads.Learnt,
+  refine-steps-below t,
+  refine-steps.Post,
+  last-step-reads.Asked,
+  last-step-reads.Learnt,
+) (refine-steps-at t) refine-steps.Post
+refine-steps-same-length-3 t c = search needs
+
+refine-steps-returns-2 : (t : ℕ) → refine-steps-lts.Need-returns-2 (
+  few-steps-reads.Asked,
+  few-steps-reads.Learnt,
+  refine-steps-below t,
+  refine-steps.Post,
+  last-step-reads.Asked,
+  last-step-reads.Learnt,
+) (refine-steps-at t) refine-steps.Post
+refine-steps-returns-2 t c =
+    let s = c .before .before .before .before .before .before .before .before .before .before in
+    let two : 2 ≤ s .args .k = c .before .before .before .before .before .before .before .before .before .if1 .left in
+    let before = c .before .before .before .before .before .before .refine-steps .ensures in (
+      c .before .last-step .ensures
+          ∙ (λ t. over (refinedNet (before .0 t) (sideAfter (s .args .k - 1) (s .args .w)) (sideAfter (s .args .k - 1) (s .args .h)) 1) (c .before .before .before .before .before .before .refine-steps .last .1 .1 .1 .1 .1 .0))
+          ∙ output-after (s .args .net .now) (s .args .out .now) (s .args .scratch .now) (c .before .before .before .before .before .before .refine-steps .last .1 .1 .1 .1 .1 .0) (s .pre .1 .0) (omega arith) (before .1),
+      scratch-after (s .args .net .now) (s .args .scratch .now) (s .args .w) (s .args .h) (s .args .k) two (s .pre .1 .3) (before .0),
+    )
+
+pub +refine-steps-spec : {M : Type 1} → statement M
++refine-steps-spec = close μ-refine-steps λ t. refine-steps-lts.spec (
+  few-steps-reads.Asked,
+  few-steps-reads.Learnt,
+  refine-steps-below t,
+  refine-steps.Post,
+  last-step-reads.Asked,
+  last-step-reads.Learnt,
+)
+    (refine-steps-at t)
+    refine-steps.Post
+    (refine-steps-few-steps-requires t)
+    (refine-steps-sub-refine-steps t)
+    (refine-steps-refine-steps-requires t)
+    (refine-steps-last-step-requires t)
+    (refine-steps-same-length t)
+    (refine-steps-returns t)
+    (refine-steps-same-length-2 t)
+    (refine-steps-same-length-3 t)
+    (refine-steps-returns-2 t)

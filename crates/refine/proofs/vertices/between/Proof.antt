@@ -1,0 +1,31 @@
+-- `refine::vertices::between` meets its contract.
+use mathlib.Core.Path.{_∙_}
+use borrow.Author.Needs.{needs}
+use Rattle.subdivision.specs.WeightTable.{refinedTriangle}
+use Rattle.refine.proofs.vertices.between.Statement.{statement}
+use Rattle.refine.proofs.vertices.between.Tie as tie
+
+load-requires : tie.Need-load-requires
+load-requires c κs = search needs
+
+load-requires-2 : tie.Need-load-requires-2
+load-requires-2 c κs = search needs
+
+weight-table-requires : tie.Need-weight-table-requires
+weight-table-requires c κs = search needs
+
+refined-triangle-requires : tie.Need-refined-triangle-requires
+refined-triangle-requires c κs = search needs
+
+returns : tie.Need-returns
+returns c = c .refined-triangle .ensures ∙ (λ t. refinedTriangle (c .before .weight-table .ensures t) (c .before .before .before .before .args .kind) (c .before .before .before .load .ensures t) (c .before .before .load2 .ensures t))
+
+pub between-spec : {M : Type 1} → statement M
+between-spec =
+    tie.close
+    (tie.spec
+    load-requires
+    load-requires-2
+    weight-table-requires
+    refined-triangle-requires
+    returns)

@@ -1,0 +1,103 @@
+// Sides after k steps, and the refusals of refining. What the inner functions ask is met by those below them and by the crate's other modules.
+use net::bad_size;
+use net::net_beyond;
+use net::short_net;
+ghost use mathlib.Core.Path.{_≡_};
+ghost use mathlib.Core.Bool.{false, _||_};
+ghost use Prim.Native.Nat.{_≤_};
+ghost use lib.Dec.{ltb};
+ghost use Rattle.net.specs.TurnedAway.{firstFault, badSize};
+ghost use Rattle.subdivision.specs.Refinement.{sideAfter};
+ghost use Rattle.refine.specs.RefinedNet.{numbersAfter};
+ghost use Rattle.refine.specs.TurnedAway.{tooDeep, tooShort, sizeFaults, netFaults};
+
+// A side of n vertices after k steps.
+pub fn side_after(n: usize, k: usize) -> usize
+    requires { ⌜ (1 ≤ n) × (n ≤ 1025) × (k ≤ 6) ⌝ }
+    ensures { λ r. ⌜ r ≡ sideAfter k n ⌝ }
+{
+    let mut side = n;
+    let mut i = 0;
+    while i < k {
+        side = 2 * side - 1;
+        i += 1;
+    }
+    side
+}
+
+// Whether k is above 6 or a refined side above 1,025: k first, before a side is doubled k times.
+fn too_deep(w: usize, h: usize, k: usize) -> bool
+    requires { ⌜ badSize w h ≡ false ⌝ }
+    ensures { λ r. ⌜ r ≡ tooDeep w h k ⌝ }
+{
+    if 6 < k {
+        return true;
+    }
+    if 1025 < side_after(w, k) {
+        return true;
+    }
+    1025 < side_after(h, k)
+}
+
+// The first of 1 and 4, or 0.
+pub fn size_refusal(w: usize, h: usize, k: usize) -> u32
+    ensures { λ r. ⌜ r ≡ firstFault (sizeFaults w h k) ⌝ }
+{
+    if bad_size(w, h) {
+        return 1;
+    }
+    if too_deep(w, h, k) {
+        return 4;
+    }
+    0
+}
+
+// Whether a slice of so many numbers is shorter than the net after k steps.
+fn shorter_than(room: usize, w: usize, h: usize, k: usize) -> bool
+    requires { ⌜ (badSize w h ≡ false) × (tooDeep w h k ≡ false) ⌝ }
+    ensures { λ r. ⌜ r ≡ ltb room (numbersAfter k w h) ⌝ }
+{
+    room < 9 * (side_after(w, k) * side_after(h, k))
+}
+
+// Whether the output or the scratch is too short.
+fn too_short(w: usize, h: usize, k: usize, room: usize, spare: usize) -> bool
+    requires { ⌜ (badSize w h ≡ false) × (tooDeep w h k ≡ false) ⌝ }
+    ensures { λ r. ⌜ r ≡ tooShort w h k room spare ⌝ }
+{
+    if shorter_than(room, w, h, k) {
+        return true;
+    }
+    if k < 2 {
+        return false;
+    }
+    shorter_than(spare, w, h, k - 1)
+}
+
+// The first of 2, 5 and 3, or 0, of a net whose size is not refused; `short` is whether another output is too short.
+pub fn net_refusal(
+    net: &[i32],
+    w: usize,
+    h: usize,
+    k: usize,
+    short: bool,
+    room: usize,
+    spare: usize,
+) -> u32
+    requires { ⌜ (badSize w h ≡ false) × (tooDeep w h k ≡ false) ⌝ }
+    ensures { λ r. ⌜ r ≡ firstFault (netFaults (now (net .entry)) w h (short || tooShort w h k room spare)) ⌝ }
+{
+    if short_net(net, w, h) {
+        return 2;
+    }
+    if short {
+        return 5;
+    }
+    if too_short(w, h, k, room, spare) {
+        return 5;
+    }
+    if net_beyond(net, w * h) {
+        return 3;
+    }
+    0
+}

@@ -1,0 +1,96 @@
+// Refining and then a surface point, in one go: demand 3, held to by the code itself.
+use crate::depth::net_refusal;
+use crate::depth::side_after;
+use crate::depth::size_refusal;
+use crate::steps::refine_steps;
+use surface::PointAnswer;
+use surface::surface_point;
+ghost use mathlib.Core.Path.{_≡_};
+ghost use mathlib.Core.Bool.{false, _||_};
+ghost use lib.ListN.{length};
+ghost use Rattle.net.specs.TurnedAway.{badSize, outputAfter};
+ghost use Rattle.surface.specs.Answers.{pointTold};
+ghost use Rattle.refine.specs.RefinedNet.{refinedNet};
+ghost use Rattle.refine.specs.TurnedAway.{tooDeep, tooShort, offGrid, refinedPointRefusal};
+ghost use Rattle.refine.specs.Answers.{freeScratch, KeptFrom, refinedPointAnswer};
+ghost use Rattle.refine.specs.DemandThree.{Kept};
+
+// Whether place (p, q) is off the refined grid.
+fn off_grid(w: usize, h: usize, k: usize, p: usize, q: usize) -> bool
+    requires { ⌜ (badSize w h ≡ false) × (tooDeep w h k ≡ false) ⌝ }
+    ensures { λ r. ⌜ r ≡ offGrid w h k p q ⌝ }
+{
+    if 1024 * (side_after(w, k) - 1) < p {
+        return true;
+    }
+    1024 * (side_after(h, k) - 1) < q
+}
+
+// The number of the first fault, 1, 4, 6, 2, 5 or 3, or 0 where there is none.
+fn refusal_at(
+    net: &[i32],
+    w: usize,
+    h: usize,
+    k: usize,
+    p: usize,
+    q: usize,
+    short: bool,
+    room: usize,
+    spare: usize,
+) -> u32
+    ensures { λ r. ⌜ r ≡ refinedPointRefusal (now (net .entry)) w h k p q (short || tooShort w h k room spare) ⌝ }
+{
+    let refusal = size_refusal(w, h, k);
+    if refusal != 0 {
+        return refusal;
+    }
+    if off_grid(w, h, k, p, q) {
+        return 6;
+    }
+    net_refusal(net, w, h, k, short, room, spare)
+}
+
+// The same as `refined_point`, for the crates above: `short` is whether another output that they were lent is too short, which is 5 too.
+pub fn refined_point_with(
+    net: &[i32],
+    w: usize,
+    h: usize,
+    k: usize,
+    p: usize,
+    q: usize,
+    short: bool,
+    out: &mut [i32],
+    scratch: &mut [i32],
+) -> PointAnswer
+    ensures { λ r. ⌜ pointTold r ≡ refinedPointAnswer (now (net .entry)) w h k p q (short || tooShort w h k (length (now (out .entry))) (length (now (scratch .entry)))) ⌝ }
+    ensures { λ r. ⌜ now (out .exit) ≡ outputAfter (refinedPointRefusal (now (net .entry)) w h k p q (short || tooShort w h k (length (now (out .entry))) (length (now (scratch .entry))))) (refinedNet (now (net .entry)) w h k) (now (out .entry)) ⌝ }
+    ensures { λ r. ⌜ KeptFrom (freeScratch (refinedPointRefusal (now (net .entry)) w h k p q (short || tooShort w h k (length (now (out .entry))) (length (now (scratch .entry))))) k w h) (now (scratch .entry)) (now (scratch .exit)) ⌝ }
+{
+    let refusal = refusal_at(net, w, h, k, p, q, short, out.len(), scratch.len());
+    if refusal != 0 {
+        return PointAnswer::Refused(refusal);
+    }
+    refine_steps(net, w, h, k, out, scratch);
+    let m = side_after(w, k);
+    let n = side_after(h, k);
+    surface_point(out, m, n, p, q)
+}
+
+// The net refined by k steps over the front of `out`, and the surface point at place (p, q) of the refined grid; or the first of 1, 4, 6, 2, 5, 3. Its last promise is demand 3.
+pub fn refined_point(
+    net: &[i32],
+    w: usize,
+    h: usize,
+    k: usize,
+    p: usize,
+    q: usize,
+    out: &mut [i32],
+    scratch: &mut [i32],
+) -> PointAnswer
+    ensures { λ r. ⌜ pointTold r ≡ refinedPointAnswer (now (net .entry)) w h k p q (tooShort w h k (length (now (out .entry))) (length (now (scratch .entry)))) ⌝ }
+    ensures { λ r. ⌜ now (out .exit) ≡ outputAfter (refinedPointRefusal (now (net .entry)) w h k p q (tooShort w h k (length (now (out .entry))) (length (now (scratch .entry))))) (refinedNet (now (net .entry)) w h k) (now (out .entry)) ⌝ }
+    ensures { λ r. ⌜ KeptFrom (freeScratch (refinedPointRefusal (now (net .entry)) w h k p q (tooShort w h k (length (now (out .entry))) (length (now (scratch .entry))))) k w h) (now (scratch .entry)) (now (scratch .exit)) ⌝ }
+    ensures { λ r. ⌜ (refinedPointRefusal (now (net .entry)) w h k p q (tooShort w h k (length (now (out .entry))) (length (now (scratch .entry)))) ≡ 0 → Kept (now (net .entry)) w h k p q (pointTold r)) ⌝ }
+{
+    refined_point_with(net, w, h, k, p, q, false, out, scratch)
+}

@@ -1,0 +1,68 @@
+-- Nets that are taken: their surface points are answered at every place of the grid.
+use mathlib.Core.Path.{_≡_, refl, sym, ap, _∙_}
+use mathlib.Core.Bool.{Bool, true, false}
+use mathlib.Core.List.{List}
+use Prim.Native.Nat.{ℕ, _+_, _-_, _*_, _≤_, _<_}
+use native.Mathlib.Omega.{arith}
+use lib.Dec.{ltb}
+use lib.IntN.{ℤ}
+use lib.ListN.{take, drop}
+use borrow.Author.Tests.{le-ltb}
+use Rattle.net.specs.Net.{Index, one, two, three, cornerOf, corner, numbers, start, vertexNumbers}
+use Rattle.net.specs.TurnedAway.{badSide, badSize, anyBeyond}
+use Rattle.net.proofs.Faults.{or-none, or-no, cond-false}
+use Rattle.net.proofs.Places.{vertex-ends}
+use Rattle.net.proofs.Ranges.{any-front}
+use Rattle.surface.specs.SurfacePoint.{OnGrid, chosen}
+use Rattle.surface.specs.TurnedAway.{noPlace, triangleBeyond, pointRefusal}
+use Rattle.surface.proofs.Cells.{cells-in-grid}
+use Rattle.subdivision.specs.Promises.{AcceptedNet}
+
+-- ---- the corners of a place's triangle are vertices of the net
+
+corner-near : (down : Bool) (i j : ℕ) (P : Index) → (cornerOf down i j P .column ≤ i + 1) × (cornerOf down i j P .row ≤ j + 1)
+corner-near false i j one = (omega arith, omega arith)
+corner-near false i j two = (omega arith, omega arith)
+corner-near false i j three = (omega arith, omega arith)
+corner-near true i j one = (omega arith, omega arith)
+corner-near true i j two = (omega arith, omega arith)
+corner-near true i j three = (omega arith, omega arith)
+
+pub on-the-grid : (D w h p q : ℕ) → OnGrid D w h p q → noPlace D w h p q ≡ false
+on-the-grid D w h p q g = sym (or-no (ltb (D * (w - 1)) p) _ (le-ltb _ _ (g .0)) (sym (le-ltb _ _ (g .1))))
+
+pub corner-in-net : (w h p q : ℕ) → badSize w h ≡ false → OnGrid 1024 w h p q → (P : Index) →
+    (corner (chosen 1024 w h p q) P .column < w) × (corner (chosen 1024 w h p q) P .row < h)
+corner-in-net w h p q e g P =
+    let t = chosen 1024 w h p q in
+    let c = cells-in-grid w h p q e (on-the-grid 1024 w h p q g) in
+    let near = corner-near (t .down) (t .column) (t .row) P in
+    (omega (arith, near .0, c .column), omega (arith, near .1, c .row))
+
+-- ---- numbers in range
+
+-- a part of a front that is in range
+part-fine : (l : List ℤ) (n at m : ℕ) → at + m ≤ n → anyBeyond (take n l) ≡ false → anyBeyond (take m (drop at l)) ≡ false
+part-fine l n at m a e =
+    let all : at + m + (n - (at + m)) ≡ n = omega arith in
+    let whole = ap (λ (k : ℕ). anyBeyond (take k l)) all ∙ e in
+    let front = or-none (anyBeyond (take (at + m) l)) _ (sym (any-front l (at + m) (n - (at + m))) ∙ whole) .0 in
+    or-none (anyBeyond (take at l)) _ (sym (any-front l at m) ∙ front) .1
+
+-- sides from 2 to 1,025
+pub good-sides : (w h : ℕ) → 2 ≤ w → w ≤ 1025 → 2 ≤ h → h ≤ 1025 → badSize w h ≡ false
+good-sides w h a b c d = sym (or-no (badSide w) (badSide h) (side w a b) (sym (side h c d)))
+  where
+    side : (n : ℕ) → 2 ≤ n → n ≤ 1025 → badSide n ≡ false
+    side n low high = sym (or-no (ltb n 2) (ltb 1025 n) (le-ltb n 2 low) (sym (le-ltb 1025 n high)))
+
+pub point-not-refused : (net : List ℤ) (w h : ℕ) → AcceptedNet net w h → (p q : ℕ) → OnGrid 1024 w h p q → pointRefusal net w h p q ≡ 0
+point-not-refused net w h a p q g =
+    let t = chosen 1024 w h p q in
+    let fine : (P : Index) → anyBeyond (vertexNumbers net w (corner t P)) ≡ false =
+    λ P.
+    let c = corner-in-net w h p q (a .size) g P in
+    let v = corner t P in
+    part-fine net (numbers w h) (start w v) 9 (vertex-ends {w = w} {h = h} {i = v .column} {j = v .row} (c .0) (c .1)) (a .inRange) in
+    let triangle : triangleBeyond net w t ≡ false = sym (or-no _ _ (fine one) (or-no _ _ (fine two) (sym (fine three)))) in
+    sym (cond-false _ 1 _ (a .size) (cond-false _ 6 _ (on-the-grid 1024 w h p q g) (cond-false _ 2 _ (a .long) (cond-false _ 3 _ triangle refl))))
