@@ -25,7 +25,7 @@ use Rattle.netfile.specs.TurnedAway.{headFaults, bodyFaults, readFaults, readRe
 use Rattle.netfile.specs.Answers.{answer, readNet}
 use Rattle.netfile.specs.Promises.{Readable}
 use Rattle.netfile.proofs.ReadLaws.{head-numbered, body-numbered}
-use Rattle.netfile.proofs.AcceptedFiles.{front}
+use Rattle.netfile.proofs.AcceptedFiles.{read-front}
 use Rattle.listing_text.specs.Listing.{headLine, pointLine, refusalLine, vertexLine, listing}
 use Rattle.listing_text.specs.Printed.{bufferSize, listTold, listRefusal, refinedFile, ReadyToList}
 use Rattle.listing_text.specs.Promises.{PiecesPrinted}
@@ -60,12 +60,12 @@ module _ (file : List ℕ) (lent : List ℤ) (space : ℕ) where
         let n = points w h in
         let early = shortFor file (length lent) in
         cut-refine-refusal (readNet file lent) w h short 1
-        ∙ ap (λ (l : List ℤ). refineRefusal l w h 1 short) (front file lent taken)
+        ∙ ap (λ (l : List ℤ). refineRefusal l w h 1 short) (read-front file lent taken)
         ∙ fault-after reading later
         (none-clear reading (numbered-append (headFaults file early) (bodyFaults file n) (head-numbered file early) (body-numbered file n)) taken)
 
     pub refined-after : refinedNet (readNet file lent) w h 1 ≡ refinedFile file
-    refined-after = cut-refined (readNet file lent) w h 1 ∙ ap (λ (l : List ℤ). refinedNet l w h 1) (front file lent taken)
+    refined-after = cut-refined (readNet file lent) w h 1 ∙ ap (λ (l : List ℤ). refinedNet l w h 1) (read-front file lent taken)
 
     -- and what is left is a net that is taken
     pub accepted-after : (refined : List ℤ) → space ≡ length refined → listRefusal file (length lent) space ≡ 0 →

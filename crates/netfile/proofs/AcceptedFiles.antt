@@ -155,8 +155,8 @@ module _ (file : List ℕ) (lent : List ℤ) (taken : Readable file lent) where
   laid-over : after ≡ over (fileNumbers file) lent
   laid-over = sym (when-accepted (readRefusal file short) (over (fileNumbers file) lent) lent taken)
 
-  pub front : cut after width height ≡ fileNumbers file
-  front =
+  pub read-front : cut after width height ≡ fileNumbers file
+  read-front =
       ap (cut-of) laid-over ∙ ap (λ (k : ℕ). take k (over (fileNumbers file) lent)) (sym numbers-read) ∙ take-over (fileNumbers file) lent
     where
       cut-of : List ℤ → List ℤ
@@ -165,7 +165,7 @@ module _ (file : List ℕ) (lent : List ℤ) (taken : Readable file lent) where
   number-after : (i at r : ℕ) → i < n → r < 3 → at ≡ i * 3 + r → number after at ≡ number (firstPoint (fromPoint file i)) r
   number-after i at r k l e =
       sym (getD-take (numbers width height) after at (pos 0) (omega (arith, k, l, e)))
-      ∙ ap (λ (m : List ℤ). number m at) front
+      ∙ ap (λ (m : List ℤ). number m at) read-front
       ∙ ap (number (fileNumbers file)) e
       ∙ getD-runs n 3 (λ j. firstPoint (fromPoint file j)) (pos 0) (λ j q. point-numbers (fromPoint file j)) i r k l
 
@@ -176,7 +176,7 @@ module _ (file : List ℕ) (lent : List ℤ) (taken : Readable file lent) where
         (
           le-ltb (length after) (numbers width height)
               (omega (arith, ap length laid-over, length-over (fileNumbers file) lent (omega (arith, numbers-read, room)), room)),
-          (refl, (ap anyBeyond front ∙ any-runs n (λ i. firstPoint (fromPoint file i)) (λ i k. point-range (fromPoint file i) (points-clear i k)), tt)),
+          (refl, (ap anyBeyond read-front ∙ any-runs n (λ i. firstPoint (fromPoint file i)) (λ i k. point-range (fromPoint file i) (points-clear i k)), tt)),
         ),
       )
 

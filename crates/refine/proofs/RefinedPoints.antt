@@ -33,9 +33,9 @@ use Rattle.subdivision.proofs.DemandThree.{demand-three, refined-in-range}
 use Rattle.subdivision.proofs.Accepted.{corner-in-net, good-sides, point-not-refused}
 use Rattle.refine.specs.RefinedNet.{Fields, pointAt, vertexRun, rowRun, stored, refinedNet, numbersAfter, scratchNeed}
 use Rattle.refine.specs.TurnedAway.{tooDeep, tooShort, sizeFaults, netFaults, refineRefusal, offGrid, refinedPointRefusal}
-use Rattle.refine.specs.Answers.{refusalOf, refinedPointAnswer}
+use Rattle.refine.specs.Answers.{refusalOf, refusalAt, refinedSurfacePoint, refinedPointAnswer}
 use Rattle.refine.specs.Steps.{Depth}
-use Rattle.refine.specs.DemandThree.{Kept, RefinedPoints}
+use Rattle.refine.specs.DemandThree.{Claimed, RefinedPoints}
 use Rattle.refine.proofs.Sides.{good-depth}
 use Rattle.refine.proofs.StoredNets.{stored-field, refined-length}
 
@@ -157,8 +157,8 @@ module _ (net : List ℤ) (w h k : ℕ) (out : List ℤ) (depth : Depth w h k) (
         answered (pointRefusal (refinedNet net w h k) wide high p q) (surfacePoint (refinedNet net w h k) wide high p q)
         (point-answered ∙ cut-point-answer left wide high p q ∙ ap (λ (l : List ℤ). pointAnswer l wide high p q) front) .1
 
-    pub kept : Kept net w h k p q (0, coordinates)
-    kept =
+    pub claimed : Claimed net w h k p q (0, coordinates)
+    claimed =
         let each : (x : ℕ) → x < 3 → refinedCoordinate (field net w x) w h k p q ≡ number coordinates x = three-numbers (λ x. refinedCoordinate (field net w x) w h k p q) in
         record {
           answered = refl;
@@ -178,20 +178,18 @@ module _ (net : List ℤ) (w h k : ℕ) (out : List ℤ) (depth : Depth w h k) (
 pub refined-points : RefinedPoints
 refined-points net w h k out scratch e p q place =
     let t = refine-taken net w h k (length out) (length scratch) e in
-    subst (Kept net w h k p q)
+    subst (Claimed net w h k p q)
     (point-answered net w h k out (t .depth) (t .given) (t .roomy) p q place
     ∙ ap (λ (l : List ℤ). pointAnswer l (sideAfter k w) (sideAfter k h) p q) (when-accepted (refusalOf net w h k out scratch) (over (refinedNet net w h k) out) out e))
-    (kept net w h k out (t .depth) (t .given) (t .roomy) p q place)
+    (claimed net w h k out (t .depth) (t .given) (t .roomy) p q place)
 
 -- of the answer of the call that does both
-pub answer-kept : (net : List ℤ) (w h k p q : ℕ) (out scratch : List ℤ) {told : ℕ × List ℤ} →
-    (let short = tooShort w h k (length out) (length scratch) in
-    refinedPointRefusal net w h k p q short ≡ 0 → told ≡ refinedPointAnswer net w h k p q short → Kept net w h k p q told)
-answer-kept net w h k p q out scratch none e =
+pub answer-claimed : (net : List ℤ) (w h k p q : ℕ) (out scratch : List ℤ) {told : ℕ × List ℤ} → refusalAt net w h k p q false out scratch ≡ 0 →
+    told ≡ refinedPointAnswer net w h k p q false out scratch → Claimed net w h k p q told
+answer-claimed net w h k p q out scratch none e =
     let t = point-taken net w h k p q false (length out) (length scratch) none in
-    let short = tooShort w h k (length out) (length scratch) in
-    subst (Kept net w h k p q)
-    (accepted-answer (refinedPointRefusal net w h k p q short) (surfacePoint (refinedNet net w h k) (sideAfter k w) (sideAfter k h) p q) none
+    subst (Claimed net w h k p q)
+    (accepted-answer (refusalAt net w h k p q false out scratch) (refinedSurfacePoint net w h k p q) none
     (point-of-refined net w h k out (t .0 .depth) (t .0 .given) (t .0 .roomy) p q (t .1))
     ∙ sym e)
-    (kept net w h k out (t .0 .depth) (t .0 .given) (t .0 .roomy) p q (t .1))
+    (claimed net w h k out (t .0 .depth) (t .0 .given) (t .0 .roomy) p q (t .1))

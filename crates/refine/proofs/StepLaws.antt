@@ -17,7 +17,7 @@ use Rattle.net.proofs.Faults.{cond-false}
 use Rattle.subdivision.specs.Refinement.{sideAfter}
 use Rattle.subdivision.proofs.SameSpline.{side-at-least}
 use Rattle.refine.specs.RefinedNet.{refinedNet, numbersAfter, scratchNeed}
-use Rattle.refine.specs.Answers.{KeptFrom}
+use Rattle.refine.specs.Answers.{UnchangedFrom}
 use Rattle.refine.specs.Steps.{Depth, StepReady}
 use Rattle.refine.proofs.Sides.{side-before, side-last, wide-ready, high-ready, shallower}
 use Rattle.refine.proofs.StoredNets.{refined-length, no-step, step-more}
@@ -73,7 +73,7 @@ over-kept result l m n a e =
     let cut : (x : List ℤ) → drop (length result) x ≡ drop r (drop n x) = λ x. sym (drop-drop r n x ∙ ap (λ (i : ℕ). drop i x) all) in
     ap (λ (x : List ℤ). result ++ x) (cut l ∙ ap (drop r) e ∙ sym (cut m))
 
-pub output-after : (net out scratch mid : List ℤ) {w h k : ℕ} → Depth w h k → 1 ≤ k → KeptFrom (scratchNeed (k - 1) w h) out mid →
+pub output-after : (net out scratch mid : List ℤ) {w h k : ℕ} → Depth w h k → 1 ≤ k → UnchangedFrom (scratchNeed (k - 1) w h) out mid →
     over (refinedNet (over (refinedNet net w h (k - 1)) scratch) (sideAfter (k - 1) w) (sideAfter (k - 1) h) 1) mid ≡ over (refinedNet net w h k) out
 output-after net out scratch mid {w} {h} {k} d a kept =
     let last : suc (k - 1) ≡ k = omega arith in
@@ -81,7 +81,7 @@ output-after net out scratch mid {w} {h} {k} d a kept =
     ∙ over-kept (refinedNet net w h k) mid out (scratchNeed (k - 1) w h) (omega (arith, scratch-before d, refined-length net w h k)) (kept .1)
 
 pub scratch-after : (net scratch : List ℤ) (w h k : ℕ) {mid : List ℤ} → 2 ≤ k → scratchNeed k w h ≤ length scratch →
-    mid ≡ over (refinedNet net w h (k - 1)) scratch → KeptFrom (scratchNeed k w h) scratch mid
+    mid ≡ over (refinedNet net w h (k - 1)) scratch → UnchangedFrom (scratchNeed k w h) scratch mid
 scratch-after net scratch w h k a l e =
     let result = refinedNet net w h (k - 1) in
     let size : length result ≡ scratchNeed k w h = refined-length net w h (k - 1) ∙ scratch-needed k w h a in (

@@ -16,7 +16,7 @@ use Rattle.refine.specs.Answers.{refusalOf, refineOutput}
 -- what is claimed of an answer at place (p, q) of the k times refined net: it is a point, x, y, z, and no refusal; and each coordinate is within (k + 1)/2
 -- units of the exact spline of the starting net at that place, edge count 1024·2^k, and within the least and the greatest of the nine control values of each
 -- starting triangle that the place lies in
-pub record Kept (net : List ℤ) (w h k p q : ℕ) (told : ℕ × List ℤ) : Type 0 where
+pub record Claimed (net : List ℤ) (w h k p q : ℕ) (told : ℕ × List ℤ) : Type 0 where
   pub answered : told .0 ≡ 0
   pub point : length (told .1) ≡ 3
   pub near : (x : ℕ) → x < 3 → NearSpline (field net w x) w h k p q (number (told .1) x)
@@ -28,4 +28,4 @@ abbrev pub RefinedPoints : Type 0
 RefinedPoints =
     (net : List ℤ) (w h k : ℕ) (out scratch : List ℤ) → refusalOf net w h k out scratch ≡ 0 →
     (p q : ℕ) → OnGrid 1024 (sideAfter k w) (sideAfter k h) p q →
-    Kept net w h k p q (pointAnswer (refineOutput net w h k out scratch) (sideAfter k w) (sideAfter k h) p q)
+    Claimed net w h k p q (pointAnswer (refineOutput net w h k out scratch) (sideAfter k w) (sideAfter k h) p q)

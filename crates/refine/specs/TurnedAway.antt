@@ -16,7 +16,7 @@ use Rattle.refine.specs.RefinedNet.{numbersAfter, scratchNeed}
 abbrev pub tooDeep : ℕ → ℕ → ℕ → Bool
 tooDeep w h k = ltb 6 k || (ltb 1025 (sideAfter k w) || ltb 1025 (sideAfter k h))
 
--- 5: an output of `room` numbers is shorter than the refined net, or a scratch of `spare` numbers shorter than what is lent
+-- 5: an output of `room` numbers is shorter than the refined net, or a scratch of `spare` numbers shorter than k steps need
 abbrev pub tooShort : ℕ → ℕ → ℕ → ℕ → ℕ → Bool
 tooShort w h k room spare = ltb room (numbersAfter k w h) || ltb spare (scratchNeed k w h)
 
@@ -44,15 +44,15 @@ depths = (refl, refl, refl, refl, refl)
 lengths : (tooShort 2 2 2 225 81 ≡ false) × (tooShort 2 2 2 224 81 ≡ true) × (tooShort 2 2 2 225 80 ≡ true) × (tooShort 2 2 1 81 0 ≡ false)
 lengths = (refl, refl, refl, refl)
 
-abbrev wide : List ℤ
-wide = pos 16777217 ∷ replicate 35 (pos 0)
+abbrev tooLarge : List ℤ
+tooLarge = pos 16777217 ∷ replicate 35 (pos 0)
 
 order :
     (refineRefusal [] 1 2 7 true ≡ 1)
     × (refineRefusal [] 2 2 7 true ≡ 4)
     × (refineRefusal [] 2 2 0 true ≡ 2)
-    × (refineRefusal wide 2 2 0 true ≡ 5)
-    × (refineRefusal wide 2 2 0 false ≡ 3)
+    × (refineRefusal tooLarge 2 2 0 true ≡ 5)
+    × (refineRefusal tooLarge 2 2 0 false ≡ 3)
     × (refineRefusal (replicate 36 (pos 0)) 2 2 0 false ≡ 0)
     × (refinedPointRefusal [] 2 2 7 9999 0 true ≡ 4)
     × (refinedPointRefusal [] 2 2 1 2049 0 true ≡ 6)

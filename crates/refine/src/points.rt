@@ -7,13 +7,12 @@ use surface::PointAnswer;
 use surface::surface_point;
 ghost use mathlib.Core.Path.{_≡_};
 ghost use mathlib.Core.Bool.{false, _||_};
-ghost use lib.ListN.{length};
 ghost use Rattle.net.specs.TurnedAway.{badSize, outputAfter};
 ghost use Rattle.surface.specs.Answers.{pointTold};
 ghost use Rattle.refine.specs.RefinedNet.{refinedNet};
 ghost use Rattle.refine.specs.TurnedAway.{tooDeep, tooShort, offGrid, refinedPointRefusal};
-ghost use Rattle.refine.specs.Answers.{freeScratch, KeptFrom, refinedPointAnswer};
-ghost use Rattle.refine.specs.DemandThree.{Kept};
+ghost use Rattle.refine.specs.Answers.{freeScratch, UnchangedFrom, refusalAt, refinedPointAnswer};
+ghost use Rattle.refine.specs.DemandThree.{Claimed};
 
 // Whether place (p, q) is off the refined grid.
 fn off_grid(w: usize, h: usize, k: usize, p: usize, q: usize) -> bool
@@ -62,9 +61,9 @@ pub fn refined_point_with(
     out: &mut [i32],
     scratch: &mut [i32],
 ) -> PointAnswer
-    ensures { λ r. ⌜ pointTold r ≡ refinedPointAnswer (now (net .entry)) w h k p q (short || tooShort w h k (length (now (out .entry))) (length (now (scratch .entry)))) ⌝ }
-    ensures { λ r. ⌜ now (out .exit) ≡ outputAfter (refinedPointRefusal (now (net .entry)) w h k p q (short || tooShort w h k (length (now (out .entry))) (length (now (scratch .entry))))) (refinedNet (now (net .entry)) w h k) (now (out .entry)) ⌝ }
-    ensures { λ r. ⌜ KeptFrom (freeScratch (refinedPointRefusal (now (net .entry)) w h k p q (short || tooShort w h k (length (now (out .entry))) (length (now (scratch .entry))))) k w h) (now (scratch .entry)) (now (scratch .exit)) ⌝ }
+    ensures { λ r. ⌜ pointTold r ≡ refinedPointAnswer (now (net .entry)) w h k p q short (now (out .entry)) (now (scratch .entry)) ⌝ }
+    ensures { λ r. ⌜ now (out .exit) ≡ outputAfter (refusalAt (now (net .entry)) w h k p q short (now (out .entry)) (now (scratch .entry))) (refinedNet (now (net .entry)) w h k) (now (out .entry)) ⌝ }
+    ensures { λ r. ⌜ UnchangedFrom (freeScratch (refusalAt (now (net .entry)) w h k p q short (now (out .entry)) (now (scratch .entry))) k w h) (now (scratch .entry)) (now (scratch .exit)) ⌝ }
 {
     let refusal = refusal_at(net, w, h, k, p, q, short, out.len(), scratch.len());
     if refusal != 0 {
@@ -76,7 +75,8 @@ pub fn refined_point_with(
     surface_point(out, m, n, p, q)
 }
 
-// The net refined by k steps over the front of `out`, and the surface point at place (p, q) of the refined grid; or the first of 1, 4, 6, 2, 5, 3. Its last promise is demand 3.
+// The net refined by k steps over the front of `out`, and the surface point at place (p, q) of the refined grid; or the first of 1, 4, 6, 2, 5, 3. Its last promise is
+// demand 3: where nothing is refused, the answer is a point near the exact spline of the starting net and within its control values.
 pub fn refined_point(
     net: &[i32],
     w: usize,
@@ -87,10 +87,10 @@ pub fn refined_point(
     out: &mut [i32],
     scratch: &mut [i32],
 ) -> PointAnswer
-    ensures { λ r. ⌜ pointTold r ≡ refinedPointAnswer (now (net .entry)) w h k p q (tooShort w h k (length (now (out .entry))) (length (now (scratch .entry)))) ⌝ }
-    ensures { λ r. ⌜ now (out .exit) ≡ outputAfter (refinedPointRefusal (now (net .entry)) w h k p q (tooShort w h k (length (now (out .entry))) (length (now (scratch .entry))))) (refinedNet (now (net .entry)) w h k) (now (out .entry)) ⌝ }
-    ensures { λ r. ⌜ KeptFrom (freeScratch (refinedPointRefusal (now (net .entry)) w h k p q (tooShort w h k (length (now (out .entry))) (length (now (scratch .entry))))) k w h) (now (scratch .entry)) (now (scratch .exit)) ⌝ }
-    ensures { λ r. ⌜ (refinedPointRefusal (now (net .entry)) w h k p q (tooShort w h k (length (now (out .entry))) (length (now (scratch .entry)))) ≡ 0 → Kept (now (net .entry)) w h k p q (pointTold r)) ⌝ }
+    ensures { λ r. ⌜ pointTold r ≡ refinedPointAnswer (now (net .entry)) w h k p q false (now (out .entry)) (now (scratch .entry)) ⌝ }
+    ensures { λ r. ⌜ now (out .exit) ≡ outputAfter (refusalAt (now (net .entry)) w h k p q false (now (out .entry)) (now (scratch .entry))) (refinedNet (now (net .entry)) w h k) (now (out .entry)) ⌝ }
+    ensures { λ r. ⌜ UnchangedFrom (freeScratch (refusalAt (now (net .entry)) w h k p q false (now (out .entry)) (now (scratch .entry))) k w h) (now (scratch .entry)) (now (scratch .exit)) ⌝ }
+    ensures { λ r. ⌜ (refusalAt (now (net .entry)) w h k p q false (now (out .entry)) (now (scratch .entry)) ≡ 0 → Claimed (now (net .entry)) w h k p q (pointTold r)) ⌝ }
 {
     refined_point_with(net, w, h, k, p, q, false, out, scratch)
 }

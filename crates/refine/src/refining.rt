@@ -5,7 +5,7 @@ use crate::depth::size_refusal;
 use crate::steps::refine_steps;
 ghost use mathlib.Core.Path.{_≡_};
 ghost use Rattle.refine.specs.TurnedAway.{tooShort, refineRefusal};
-ghost use Rattle.refine.specs.Answers.{refineTold, refusalOf, refineAnswer, refineOutput, freeScratch, KeptFrom};
+ghost use Rattle.refine.specs.Answers.{refineTold, refusalOf, refineAnswer, refineOutput, freeScratch, UnchangedFrom};
 
 // The number of the first fault, 1, 4, 2, 5 or 3, or 0 where there is none.
 fn refusal_of(net: &[i32], w: usize, h: usize, k: usize, room: usize, spare: usize) -> u32
@@ -30,7 +30,7 @@ pub fn refine(
 ) -> RefineAnswer
     ensures { λ r. ⌜ refineTold r ≡ refineAnswer (now (net .entry)) w h k (now (out .entry)) (now (scratch .entry)) ⌝ }
     ensures { λ r. ⌜ now (out .exit) ≡ refineOutput (now (net .entry)) w h k (now (out .entry)) (now (scratch .entry)) ⌝ }
-    ensures { λ r. ⌜ KeptFrom (freeScratch (refusalOf (now (net .entry)) w h k (now (out .entry)) (now (scratch .entry))) k w h) (now (scratch .entry)) (now (scratch .exit)) ⌝ }
+    ensures { λ r. ⌜ UnchangedFrom (freeScratch (refusalOf (now (net .entry)) w h k (now (out .entry)) (now (scratch .entry))) k w h) (now (scratch .entry)) (now (scratch .exit)) ⌝ }
 {
     let refusal = refusal_of(net, w, h, k, out.len(), scratch.len());
     if refusal == 0 {

@@ -11,7 +11,7 @@ ghost use Rattle.exact.specs.Filling.{over};
 ghost use Rattle.net.specs.Net.{numbers};
 ghost use Rattle.subdivision.specs.Refinement.{refinedSide, sideAfter};
 ghost use Rattle.refine.specs.RefinedNet.{refinedFields, rowRun, refinedNet, numbersAfter, scratchNeed};
-ghost use Rattle.refine.specs.Answers.{KeptFrom};
+ghost use Rattle.refine.specs.Answers.{UnchangedFrom};
 ghost use Rattle.refine.specs.Steps.{Depth, StepReady};
 
 // Row j of the refined grid.
@@ -70,7 +70,7 @@ fn last_step(net: &[i32], w: usize, h: usize, k: usize, out: &mut [i32])
 pub fn refine_steps(net: &[i32], w: usize, h: usize, k: usize, out: &mut [i32], scratch: &mut [i32])
     requires { ⌜ Depth w h k × (numbers w h ≤ length (now net)) × (numbersAfter k w h ≤ length (now out)) × (scratchNeed k w h ≤ length (now scratch)) ⌝ }
     ensures { λ r. ⌜ now (out .exit) ≡ over (refinedNet (now (net .entry)) w h k) (now (out .entry)) ⌝ }
-    ensures { λ r. ⌜ KeptFrom (scratchNeed k w h) (now (scratch .entry)) (now (scratch .exit)) ⌝ }
+    ensures { λ r. ⌜ UnchangedFrom (scratchNeed k w h) (now (scratch .entry)) (now (scratch .exit)) ⌝ }
 {
     if k < 2 {
         few_steps(net, w, h, k, out);

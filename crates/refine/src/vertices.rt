@@ -13,7 +13,7 @@ ghost use Rattle.refine.specs.Steps.{threePoints};
 
 // The rule of a kind of vertices on the control triangles of vertices (i, j) and (m, n). Its callers write the kind as a literal, so that the table's rows fold
 // into the sums.
-fn between(
+fn rule_of_kind(
     net: &[i32],
     w: usize,
     kind: usize,
@@ -40,15 +40,15 @@ pub fn refined_vertex(net: &[i32], w: usize, i: usize, j: usize) -> [[i32; 3]; 3
     let n = j / 2;
     if 2 * n < j {
         if 2 * m < i {
-            between(net, w, 2, m + 1, n, m, n + 1)
+            rule_of_kind(net, w, 2, m + 1, n, m, n + 1)
         } else {
-            between(net, w, 3, m, n + 1, m, n)
+            rule_of_kind(net, w, 3, m, n + 1, m, n)
         }
     } else {
         if 2 * m < i {
-            between(net, w, 1, m, n, m + 1, n)
+            rule_of_kind(net, w, 1, m, n, m + 1, n)
         } else {
-            between(net, w, 0, m, n, m, n)
+            rule_of_kind(net, w, 0, m, n, m, n)
         }
     }
 }

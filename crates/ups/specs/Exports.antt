@@ -9,7 +9,6 @@ use Rattle.net.specs.Net.{triangleAt}
 use Rattle.net.specs.TurnedAway.{firstFault, badSize, shortNet}
 use Rattle.surface.specs.SurfacePoint.{chosen}
 use Rattle.surface.specs.TurnedAway.{noTriangle, noPlace, triangleBeyond}
-use Rattle.refine.specs.TurnedAway.{tooShort, refinedPointRefusal}
 use Rattle.netfile.specs.TurnedAway.{writeRefusal, noRoom, readRefusal, shortFor}
 
 -- `down` is 0 for the up triangle and 1 for the down triangle; another number names no triangle
@@ -45,7 +44,3 @@ writeExport net w h room counts = writeRefusal net w h (ltb counts 1 || noRoom w
 -- width and height need room for two
 abbrev pub readExport : List ℕ → ℕ → ℕ → ℕ
 readExport file room sides = readRefusal file (ltb sides 2 || shortFor file room)
-
--- a refined point needs room for three, beside the output and the scratch
-abbrev pub refinedPointExport : List ℤ → ℕ → ℕ → ℕ → ℕ → ℕ → ℕ → ℕ → ℕ → ℕ
-refinedPointExport net w h k p q room spare numbers = refinedPointRefusal net w h k p q (ltb numbers 3 || tooShort w h k room spare)

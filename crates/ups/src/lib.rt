@@ -27,11 +27,10 @@ ghost use Rattle.net.specs.TurnedAway.{outputAfter, vertexRefusal};
 ghost use Rattle.surface.specs.BezierNet.{bezierNumbers};
 ghost use Rattle.surface.specs.SurfacePoint.{surfacePoint};
 ghost use Rattle.surface.specs.Answers.{viewPoint};
-ghost use Rattle.subdivision.specs.Refinement.{sideAfter};
 ghost use Rattle.refine.specs.RefinedNet.{refinedNet};
-ghost use Rattle.refine.specs.Answers.{refusalOf, freeScratch, KeptFrom};
+ghost use Rattle.refine.specs.Answers.{refusalOf, refusalAt, refinedSurfacePoint, freeScratch, UnchangedFrom};
 ghost use Rattle.netfile.specs.NetFile.{netFile, fileSize, fileWidth, fileHeight, fileNumbers};
-ghost use Rattle.ups.specs.Exports.{bezierExport, pointExport, withRoom, writeExport, readExport, refinedPointExport};
+ghost use Rattle.ups.specs.Exports.{bezierExport, pointExport, withRoom, writeExport, readExport};
 
 // 1, 6, 2, or 0: the companion of the vertex part.
 #[no_mangle]
@@ -198,7 +197,7 @@ pub extern "C" fn ups_refine(
 ) -> u32
     ensures { λ r. ⌜ r ≡ refusalOf (now (net .entry)) w h k (now (out .entry)) (now (scratch .entry)) ⌝ }
     ensures { λ r. ⌜ now (out .exit) ≡ outputAfter r (refinedNet (now (net .entry)) w h k) (now (out .entry)) ⌝ }
-    ensures { λ r. ⌜ KeptFrom (freeScratch r k w h) (now (scratch .entry)) (now (scratch .exit)) ⌝ }
+    ensures { λ r. ⌜ UnchangedFrom (freeScratch r k w h) (now (scratch .entry)) (now (scratch .exit)) ⌝ }
 {
     let answer = refine(net, w, h, k, out, scratch);
     match answer {
@@ -220,10 +219,10 @@ pub extern "C" fn ups_refined_point(
     scratch: &mut [i32],
     point: &mut [i32],
 ) -> u32
-    ensures { λ r. ⌜ r ≡ refinedPointExport (now (net .entry)) w h k p q (length (now (out .entry))) (length (now (scratch .entry))) (length (now (point .entry))) ⌝ }
+    ensures { λ r. ⌜ r ≡ refusalAt (now (net .entry)) w h k p q (ltb (length (now (point .entry))) 3) (now (out .entry)) (now (scratch .entry)) ⌝ }
     ensures { λ r. ⌜ now (out .exit) ≡ outputAfter r (refinedNet (now (net .entry)) w h k) (now (out .entry)) ⌝ }
-    ensures { λ r. ⌜ KeptFrom (freeScratch r k w h) (now (scratch .entry)) (now (scratch .exit)) ⌝ }
-    ensures { λ r. ⌜ now (point .exit) ≡ outputAfter r (surfacePoint (refinedNet (now (net .entry)) w h k) (sideAfter k w) (sideAfter k h) p q) (now (point .entry)) ⌝ }
+    ensures { λ r. ⌜ UnchangedFrom (freeScratch r k w h) (now (scratch .entry)) (now (scratch .exit)) ⌝ }
+    ensures { λ r. ⌜ now (point .exit) ≡ outputAfter r (refinedSurfacePoint (now (net .entry)) w h k p q) (now (point .entry)) ⌝ }
 {
     let answer = refined_point_with(net, w, h, k, p, q, point.len() < 3, out, scratch);
     match answer {

@@ -1,6 +1,6 @@
 -- `ups::ups_refined_point` meets its contract.
 use mathlib.Core.Path.{_≡_, sym, ap, _∙_}
-use mathlib.Core.Bool.{Bool, cond, _||_}
+use mathlib.Core.Bool.{Bool, cond}
 use mathlib.Core.List.{List, [], _∷_}
 use Prim.Native.Nat.{ℕ, _≤_}
 use lib.Dec.{ltb, lit<}
@@ -14,11 +14,9 @@ use Rattle.exact.proofs.FillingLaws.{sets-over}
 use Rattle.exact.proofs.SignedCode.{reads-back}
 use Rattle.net.specs.TurnedAway.{accepted}
 use Rattle.net.proofs.Faults.{answered, not-accepted, when-refused}
-use Rattle.surface.specs.SurfacePoint.{surfacePoint}
 use Rattle.surface.specs.Answers.{pointTold}
-use Rattle.subdivision.specs.Refinement.{sideAfter}
 use Rattle.refine.specs.RefinedNet.{refinedNet}
-use Rattle.refine.specs.TurnedAway.{tooShort, refinedPointRefusal}
+use Rattle.refine.specs.Answers.{refusalAt, refinedSurfacePoint}
 use Rattle.refine.proofs.RefinedPoints.{point-taken}
 use Rattle.ups.proofs.Exports.{left-exported}
 use Rattle.ups.proofs.ups_refined_point.Statement.{statement}
@@ -28,15 +26,13 @@ abbrev short : tie.Start → Bool
 short s = ltb (length (s .args .point .now)) 3
 
 abbrev refusal : tie.Start → ℕ
-refusal s =
-    refinedPointRefusal (s .args .net .now) (s .args .w) (s .args .h) (s .args .k) (s .args .p) (s .args .q)
-    (short s || tooShort (s .args .w) (s .args .h) (s .args .k) (length (s .args .out .now)) (length (s .args .scratch .now)))
+refusal s = refusalAt (s .args .net .now) (s .args .w) (s .args .h) (s .args .k) (s .args .p) (s .args .q) (short s) (s .args .out .now) (s .args .scratch .now)
 
 abbrev result : tie.Start → List ℤ
 result s = refinedNet (s .args .net .now) (s .args .w) (s .args .h) (s .args .k)
 
 abbrev values : tie.Start → List ℤ
-values s = surfacePoint (result s) (sideAfter (s .args .k) (s .args .w)) (sideAfter (s .args .k) (s .args .h)) (s .args .p) (s .args .q)
+values s = refinedSurfacePoint (s .args .net .now) (s .args .w) (s .args .h) (s .args .k) (s .args .p) (s .args .q)
 
 -- there is room for the point where nothing is refused
 room : (s : tie.Start) → refusal s ≡ 0 → 3 ≤ length (s .args .point .now)

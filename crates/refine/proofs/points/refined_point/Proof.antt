@@ -1,6 +1,6 @@
 -- `refine::points::refined_point` meets its contract.
 use borrow.Author.Needs.{needs}
-use Rattle.refine.proofs.RefinedPoints.{answer-kept}
+use Rattle.refine.proofs.RefinedPoints.{answer-claimed}
 use Rattle.refine.proofs.points.refined_point.Statement.{statement}
 use Rattle.refine.proofs.points.refined_point.Tie as tie
 
@@ -17,7 +17,7 @@ returns : tie.Need-returns
 returns c =
     let s = c .before .before .before .before .before in
     let e = c .before .before .refined-point-with .ensures in
-    (e .0, (e .1 .0, (e .1 .1, λ none. answer-kept (s .args .net .now) (s .args .w) (s .args .h) (s .args .k) (s .args .p) (s .args .q) (s .args .out .now) (s .args .scratch .now) none (e .0))))
+    (e .0, (e .1 .0, (e .1 .1, λ none. answer-claimed (s .args .net .now) (s .args .w) (s .args .h) (s .args .k) (s .args .p) (s .args .q) (s .args .out .now) (s .args .scratch .now) none (e .0))))
 
 pub refined-point-spec : {M : Type 1} → statement M
 refined-point-spec =

@@ -1,6 +1,6 @@
 -- `refine::points::refined_point_with` meets its contract.
 use mathlib.Core.Path.{_≡_, sym, _∙_}
-use mathlib.Core.Bool.{false, _||_}
+use mathlib.Core.Bool.{false}
 use mathlib.Core.List.{List}
 use Prim.Native.Nat.{ℕ}
 use lib.IntN.{ℤ}
@@ -8,11 +8,11 @@ use lib.ListN.{length}
 use borrow.Author.Needs.{needs}
 use borrow.Author.Tests.{ltb-false}
 use Rattle.net.proofs.Faults.{accepted-answer, refused-answer}
-use Rattle.surface.specs.SurfacePoint.{OnGrid, surfacePoint}
+use Rattle.surface.specs.SurfacePoint.{OnGrid}
 use Rattle.surface.specs.Answers.{pointAnswer}
 use Rattle.subdivision.specs.Refinement.{sideAfter}
 use Rattle.refine.specs.RefinedNet.{refinedNet}
-use Rattle.refine.specs.TurnedAway.{tooShort, refinedPointRefusal}
+use Rattle.refine.specs.Answers.{refusalAt, refinedSurfacePoint}
 use Rattle.refine.proofs.Sides.{wide-ready, high-ready}
 use Rattle.refine.proofs.RefinedPoints.{Taken, point-taken, point-answered, point-of-refined}
 use Rattle.refine.proofs.CallLaws.{left-accepted, left-refused}
@@ -21,8 +21,7 @@ use Rattle.refine.proofs.points.refined_point_with.Tie as tie
 
 abbrev refusal : tie.Start → ℕ
 refusal s =
-    refinedPointRefusal (s .args .net .now) (s .args .w) (s .args .h) (s .args .k) (s .args .p) (s .args .q)
-    (s .args .short || tooShort (s .args .w) (s .args .h) (s .args .k) (length (s .args .out .now)) (length (s .args .scratch .now)))
+    refusalAt (s .args .net .now) (s .args .w) (s .args .h) (s .args .k) (s .args .p) (s .args .q) (s .args .short) (s .args .out .now) (s .args .scratch .now)
 
 abbrev result : tie.Start → List ℤ
 result s = refinedNet (s .args .net .now) (s .args .w) (s .args .h) (s .args .k)
@@ -48,7 +47,7 @@ returns : tie.Need-returns
 returns c =
     let s = c .before .before in
     let e = c .before .refusal-at .ensures in (
-      refused-answer (refusal s) (surfacePoint (result s) (sideAfter (s .args .k) (s .args .w)) (sideAfter (s .args .k) (s .args .h)) (s .args .p) (s .args .q)) e (c .if1 .taken),
+      refused-answer (refusal s) (refinedSurfacePoint (s .args .net .now) (s .args .w) (s .args .h) (s .args .k) (s .args .p) (s .args .q)) e (c .if1 .taken),
       left-refused (refusal s) (s .args .k) (s .args .w) (s .args .h) (result s) (s .args .out .now) (s .args .scratch .now) (λ z. c .if1 .taken (e ∙ z)),
     )
 
@@ -85,7 +84,7 @@ returns-2 c =
     c .surface-point .ensures
     ∙ (λ i. pointAnswer (steps .0 i) (c .before .before .before .side-after .ensures i) (c .before .before .side-after2 .ensures i) (s .args .p) (s .args .q))
     ∙ sym (point-answered net (s .args .w) (s .args .h) (s .args .k) (s .args .out .now) (t .0 .depth) (t .0 .given) (t .0 .roomy) (s .args .p) (s .args .q) (t .1)) in (
-      told ∙ accepted-answer (refusal s) (surfacePoint (result s) wide high (s .args .p) (s .args .q)) (none e) (point-of-refined net (s .args .w) (s .args .h) (s .args .k) (s .args .out .now) (t .0 .depth) (t .0 .given) (t .0 .roomy) (s .args .p) (s .args .q) (t .1)),
+      told ∙ accepted-answer (refusal s) (refinedSurfacePoint net (s .args .w) (s .args .h) (s .args .k) (s .args .p) (s .args .q)) (none e) (point-of-refined net (s .args .w) (s .args .h) (s .args .k) (s .args .out .now) (t .0 .depth) (t .0 .given) (t .0 .roomy) (s .args .p) (s .args .q) (t .1)),
       left-accepted (refusal s) (s .args .k) (s .args .w) (s .args .h) (result s) (s .args .out .now) (s .args .scratch .now) (c .before .before .before .before .before .before .refine-steps .last .1 .1 .1 .1 .1 .0) (none e) (steps .0) (steps .1),
     )
 

@@ -22,44 +22,44 @@ mul-if1 c = search needs
 mul-if2 : tie.Need-mul-if2
 mul-if2 c = search needs
 
-add-between : tie.Need-add-between
-add-between c = search needs
+add-rule-of-kind : tie.Need-add-rule-of-kind
+add-rule-of-kind c = search needs
 
-add-between-2 : tie.Need-add-between-2
-add-between-2 c = search needs
+add-rule-of-kind-2 : tie.Need-add-rule-of-kind-2
+add-rule-of-kind-2 c = search needs
 
-between-requires : tie.Need-between-requires
-between-requires c κs = (lit< tt, ends (c .before .before) _ _ (omega arith) (omega arith), ends (c .before .before) _ _ (omega arith) (omega arith))
+rule-of-kind-requires : tie.Need-rule-of-kind-requires
+rule-of-kind-requires c κs = (lit< tt, ends (c .before .before) _ _ (omega arith) (omega arith), ends (c .before .before) _ _ (omega arith) (omega arith))
 
-add-between-3 : tie.Need-add-between-3
-add-between-3 c = search needs
+add-rule-of-kind-3 : tie.Need-add-rule-of-kind-3
+add-rule-of-kind-3 c = search needs
 
-between-requires-2 : tie.Need-between-requires-2
-between-requires-2 c κs = (lit< tt, ends (c .before .before) _ _ (omega arith) (omega arith), ends (c .before .before) _ _ (omega arith) (omega arith))
+rule-of-kind-requires-2 : tie.Need-rule-of-kind-requires-2
+rule-of-kind-requires-2 c κs = (lit< tt, ends (c .before .before) _ _ (omega arith) (omega arith), ends (c .before .before) _ _ (omega arith) (omega arith))
 
 mul-if3 : tie.Need-mul-if3
 mul-if3 c = search needs
 
-add-between-4 : tie.Need-add-between-4
-add-between-4 c = search needs
+add-rule-of-kind-4 : tie.Need-add-rule-of-kind-4
+add-rule-of-kind-4 c = search needs
 
-between-requires-3 : tie.Need-between-requires-3
-between-requires-3 c κs = (lit< tt, ends (c .before .before) _ _ (omega arith) (omega arith), ends (c .before .before) _ _ (omega arith) (omega arith))
+rule-of-kind-requires-3 : tie.Need-rule-of-kind-requires-3
+rule-of-kind-requires-3 c κs = (lit< tt, ends (c .before .before) _ _ (omega arith) (omega arith), ends (c .before .before) _ _ (omega arith) (omega arith))
 
-between-requires-4 : tie.Need-between-requires-4
-between-requires-4 c κs = (lit< tt, ends (c .before .before) _ _ (omega arith) (omega arith), ends (c .before .before) _ _ (omega arith) (omega arith))
+rule-of-kind-requires-4 : tie.Need-rule-of-kind-requires-4
+rule-of-kind-requires-4 c κs = (lit< tt, ends (c .before .before) _ _ (omega arith) (omega arith), ends (c .before .before) _ _ (omega arith) (omega arith))
 
 returns : tie.Need-returns
-returns c = c .between .ensures ∙ by-kind (c .before .before .before .args .net .now) (c .before .before .before .args .w) (c .before .before .before .args .i) (c .before .before .before .args .j) true true (lt-ltb _ _ (c .before .if2 .taken)) (lt-ltb _ _ (c .before .before .if1 .taken))
+returns c = c .rule-of-kind .ensures ∙ by-kind (c .before .before .before .args .net .now) (c .before .before .before .args .w) (c .before .before .before .args .i) (c .before .before .before .args .j) true true (lt-ltb _ _ (c .before .if2 .taken)) (lt-ltb _ _ (c .before .before .if1 .taken))
 
 returns-2 : tie.Need-returns-2
-returns-2 c = c .between2 .ensures ∙ by-kind (c .before .before .before .args .net .now) (c .before .before .before .args .w) (c .before .before .before .args .i) (c .before .before .before .args .j) false true (le-ltb _ _ (c .before .if2 .left)) (lt-ltb _ _ (c .before .before .if1 .taken))
+returns-2 c = c .rule-of-kind2 .ensures ∙ by-kind (c .before .before .before .args .net .now) (c .before .before .before .args .w) (c .before .before .before .args .i) (c .before .before .before .args .j) false true (le-ltb _ _ (c .before .if2 .left)) (lt-ltb _ _ (c .before .before .if1 .taken))
 
 returns-3 : tie.Need-returns-3
-returns-3 c = c .between3 .ensures ∙ by-kind (c .before .before .before .args .net .now) (c .before .before .before .args .w) (c .before .before .before .args .i) (c .before .before .before .args .j) true false (lt-ltb _ _ (c .before .if3 .taken)) (le-ltb _ _ (c .before .before .if1 .left))
+returns-3 c = c .rule-of-kind3 .ensures ∙ by-kind (c .before .before .before .args .net .now) (c .before .before .before .args .w) (c .before .before .before .args .i) (c .before .before .before .args .j) true false (lt-ltb _ _ (c .before .if3 .taken)) (le-ltb _ _ (c .before .before .if1 .left))
 
 returns-4 : tie.Need-returns-4
-returns-4 c = c .between4 .ensures ∙ kept-alone _ _ _ ∙ by-kind (c .before .before .before .args .net .now) (c .before .before .before .args .w) (c .before .before .before .args .i) (c .before .before .before .args .j) false false (le-ltb _ _ (c .before .if3 .left)) (le-ltb _ _ (c .before .before .if1 .left))
+returns-4 c = c .rule-of-kind4 .ensures ∙ kept-alone _ _ _ ∙ by-kind (c .before .before .before .args .net .now) (c .before .before .before .args .w) (c .before .before .before .args .i) (c .before .before .before .args .j) false false (le-ltb _ _ (c .before .if3 .left)) (le-ltb _ _ (c .before .before .if1 .left))
 
 pub refined-vertex-spec : {M : Type 1} → statement M
 refined-vertex-spec =
@@ -67,15 +67,15 @@ refined-vertex-spec =
     (tie.spec
     mul-if1
     mul-if2
-    add-between
-    add-between-2
-    between-requires
-    add-between-3
-    between-requires-2
+    add-rule-of-kind
+    add-rule-of-kind-2
+    rule-of-kind-requires
+    add-rule-of-kind-3
+    rule-of-kind-requires-2
     mul-if3
-    add-between-4
-    between-requires-3
-    between-requires-4
+    add-rule-of-kind-4
+    rule-of-kind-requires-3
+    rule-of-kind-requires-4
     returns
     returns-2
     returns-3

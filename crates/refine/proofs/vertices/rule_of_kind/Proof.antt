@@ -1,9 +1,9 @@
--- `refine::vertices::between` meets its contract.
+-- `refine::vertices::rule_of_kind` meets its contract.
 use mathlib.Core.Path.{_∙_}
 use borrow.Author.Needs.{needs}
 use Rattle.subdivision.specs.WeightTable.{refinedTriangle}
-use Rattle.refine.proofs.vertices.between.Statement.{statement}
-use Rattle.refine.proofs.vertices.between.Tie as tie
+use Rattle.refine.proofs.vertices.rule_of_kind.Statement.{statement}
+use Rattle.refine.proofs.vertices.rule_of_kind.Tie as tie
 
 load-requires : tie.Need-load-requires
 load-requires c κs = search needs
@@ -20,8 +20,8 @@ refined-triangle-requires c κs = search needs
 returns : tie.Need-returns
 returns c = c .refined-triangle .ensures ∙ (λ t. refinedTriangle (c .before .weight-table .ensures t) (c .before .before .before .before .args .kind) (c .before .before .before .load .ensures t) (c .before .before .load2 .ensures t))
 
-pub between-spec : {M : Type 1} → statement M
-between-spec =
+pub rule-of-kind-spec : {M : Type 1} → statement M
+rule-of-kind-spec =
     tie.close
     (tie.spec
     load-requires
