@@ -8,7 +8,7 @@ use listing_text::refine_file;
 ghost use Prim.Native.Nat.{_*_, _≤_};
 ghost use Rattle.subdivision.specs.Promises.{AcceptedNet};
 
-// Piece n of the listing; answers whether it was written.
+// Piece n of the listing; answers whether it was written. What it and `print_listing` ask is met in this file.
 fn print_piece(net: &[i32], w: usize, h: usize, n: usize) -> bool
     requires { ⌜ AcceptedNet (now net) w h × (n ≤ w * h) ⌝ }
 {
@@ -17,7 +17,7 @@ fn print_piece(net: &[i32], w: usize, h: usize, n: usize) -> bool
     io::write_all(STDOUT_FILENO, &line[..count])
 }
 
-// The pieces one after the other. Nothing is printed of a net that is refused: it does not come here.
+// The pieces one after the other.
 fn print_listing(net: &[i32], w: usize, h: usize)
     requires { ⌜ AcceptedNet (now net) w h ⌝ }
 {
@@ -28,12 +28,14 @@ fn print_listing(net: &[i32], w: usize, h: usize)
     }
 }
 
+// The line of a refusal.
 fn print_refusal(n: u32) {
     let mut line = [0u8; 64];
     let count = list_refusal(n, &mut line);
     io::write_all(STDOUT_FILENO, &line[..count]);
 }
 
+// At most the first 65,536 bytes are taken, and the two nets have room for 16,384 numbers each. Nothing is printed before it is known whether something is refused.
 fn main() {
     let mut input = io::large_buffer();
     let taken = io::read_full(STDIN_FILENO, &mut input);

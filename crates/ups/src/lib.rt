@@ -1,4 +1,5 @@
-// The static library: the calls of document 01 for C and Rust. A slice is a pointer and then a length; 0 is accepted, another number refuses.
+// The static library: the calls of document 01 for C and Rust. A slice is a pointer and then a length; 0 is accepted, another number refuses. As in Rust, a slice that
+// is lent to be written overlaps no other.
 use net::bad_size;
 use net::store_point;
 use net::vertex_refusal;
