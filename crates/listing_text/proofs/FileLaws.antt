@@ -2,7 +2,7 @@
 use mathlib.Core.Path.{_≡_, sym, ap, subst, _∙_}
 use mathlib.Core.Bool.{Bool}
 use mathlib.Core.List.{List, [], _∷_, _++_}
-use Prim.Native.Nat.{ℕ, _*_, _≤_, _<_}
+use Prim.Native.Nat.{ℕ, _*_, _<_}
 use native.Mathlib.Omega.{arith}
 use lib.Dec.{lit<}
 use lib.IntN.{ℤ}
@@ -15,10 +15,9 @@ use Rattle.net.proofs.Faults.{when-accepted, numbered-append, none-clear, clear
 use Rattle.surface.specs.SurfacePoint.{OnGrid}
 use Rattle.subdivision.specs.Refinement.{refinedSide, sideAfter}
 use Rattle.subdivision.specs.Promises.{AcceptedNet}
-use Rattle.refine.specs.RefinedNet.{refinedNet, numbersAfter}
+use Rattle.refine.specs.RefinedNet.{refinedNet}
 use Rattle.refine.specs.TurnedAway.{tooShort, sizeFaults, netFaults, refineRefusal}
-use Rattle.refine.specs.Steps.{Depth}
-use Rattle.refine.proofs.RefinedPoints.{refine-taken, refined-accepted, refined-coordinate, point-of-refined}
+use Rattle.refine.proofs.RefinedPoints.{Taken, refine-taken, refined-accepted, refined-coordinate, point-of-refined}
 use Rattle.refine.proofs.CutNets.{cut-refine-refusal, cut-refined}
 use Rattle.netfile.specs.NetFile.{points, fileWidth, fileHeight, fileNumbers}
 use Rattle.netfile.specs.TurnedAway.{headFaults, bodyFaults, readFaults, readRefusal, shortFor}
@@ -74,7 +73,7 @@ module _ (file : List ℕ) (lent : List ℤ) (space : ℕ) where
         let net = readNet file lent in
         let t = refine-taken net w h 1 (length refined) 0 (ap (λ (n : ℕ). refineRefusal net w h 1 (tooShort w h 1 n 0)) (sym e) ∙ refusal-after ∙ none) in
         subst (λ (l : List ℤ). AcceptedNet (over l refined) (refinedSide w) (refinedSide h)) refined-after
-        (refined-accepted net w h 1 refined (t .depth) (t .given) (t .roomy))
+        (refined-accepted net w h 1 refined t)
 
 -- what an answer tells makes its net ready
 pub ready : (r : ListAnswer) (refusal m n : ℕ) (net : List ℤ) → listTold r ≡ answer refusal (m ∷ n ∷ []) → (refusal ≡ 0 → AcceptedNet net m n) → ReadyToList r net
@@ -100,12 +99,12 @@ nothing-refused file room space none =
     clear-none later (clear-parts reading later all .1)
 
 -- a line of what is left in the buffer is the refined net's
-line-after : (net : List ℤ) (w h k : ℕ) (out : List ℤ) → Depth w h k → AcceptedNet net w h → numbersAfter k w h ≤ length out → (i j : ℕ) → i < sideAfter k w → j < sideAfter k h →
+line-after : (net : List ℤ) (w h k : ℕ) (out : List ℤ) {spare : ℕ} → Taken net w h k (length out) spare → (i j : ℕ) → i < sideAfter k w → j < sideAfter k h →
     vertexLine (over (refinedNet net w h k) out) (sideAfter k w) (sideAfter k h) i j ≡ vertexLine (refinedNet net w h k) (sideAfter k w) (sideAfter k h) i j
-line-after net w h k out d a r i j u v =
+line-after net w h k out a i j u v =
     let place : OnGrid 1024 (sideAfter k w) (sideAfter k h) (1024 * i) (1024 * j) = (omega (arith, u), omega (arith, v)) in
-    let point = point-of-refined net w h k out d a r (1024 * i) (1024 * j) place in
-    let at = refined-coordinate net w h k out d a r (1024 * i) (1024 * j) place in
+    let point = point-of-refined net w h k out a (1024 * i) (1024 * j) place in
+    let at = refined-coordinate net w h k out a (1024 * i) (1024 * j) place in
     λ t. pointLine i j
     ((at 0 (lit< tt) ∙ ap (λ (l : List ℤ). number l 0) point) t)
     ((at 1 (lit< tt) ∙ ap (λ (l : List ℤ). number l 1) point) t)
@@ -116,8 +115,7 @@ unfolding listing
 pieces-printed file buffer long none =
     let w = fileWidth file in
     let h = fileHeight file in
-    let t = refine-taken (fileNumbers file) w h 1 bufferSize 0 (nothing-refused file bufferSize bufferSize none) in
-    let room : numbersAfter 1 w h ≤ length buffer = omega (arith, t .roomy, long) in
+    let t = subst (λ (n : ℕ). Taken (fileNumbers file) w h 1 n 0) (sym long) (refine-taken (fileNumbers file) w h 1 bufferSize 0 (nothing-refused file bufferSize bufferSize none)) in
     let left = over (refinedFile file) buffer in
     let wide = refinedSide w in
     let high = refinedSide h in
@@ -125,5 +123,5 @@ pieces-printed file buffer long none =
     ∙ ap (λ (l : List ℕ). headLine wide high ++ l)
     (runs-same high (λ j. runs wide (λ i. vertexLine left wide high i j)) (λ j. runs wide (λ i. vertexLine (refinedFile file) wide high i j)) (λ j v.
     runs-same wide (λ i. vertexLine left wide high i j) (λ i. vertexLine (refinedFile file) wide high i j) (λ i u.
-    line-after (fileNumbers file) w h 1 buffer (t .depth) (t .given) room i j u v)))
+    line-after (fileNumbers file) w h 1 buffer t i j u v)))
     ∙ when-accepted (listRefusal file bufferSize bufferSize) (listing (refinedFile file) wide high) (refusalLine (listRefusal file bufferSize bufferSize)) none

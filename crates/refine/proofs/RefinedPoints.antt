@@ -90,7 +90,7 @@ stored-fine : (F : Fields) (w h : ℕ) → ((i j : ℕ) → i < w → j < h → 
 unfolding stored
 stored-fine F w h f = any-runs h (rowRun F w) (λ j b. any-runs w (λ i. vertexRun F (vertexAt i j)) (λ i a. vertex-fine F (vertexAt i j) (f i j a b)))
 
-module _ (net : List ℤ) (w h k : ℕ) (out : List ℤ) (depth : Depth w h k) (given : AcceptedNet net w h) (roomy : numbersAfter k w h ≤ length out) where
+module _ (net : List ℤ) (w h k : ℕ) (out : List ℤ) {spare : ℕ} (taken : Taken net w h k (length out) spare) where
   abbrev wide : ℕ
   wide = sideAfter k w
 
@@ -104,13 +104,13 @@ module _ (net : List ℤ) (w h k : ℕ) (out : List ℤ) (depth : Depth w h k) (
   left = over (refinedNet net w h k) out
 
   size : badSize wide high ≡ false
-  size = good-sides wide high (side-at-least k w (depth .wide)) (depth .narrow) (side-at-least k h (depth .high)) (depth .low)
+  size = good-sides wide high (side-at-least k w (taken .depth .wide)) (taken .depth .narrow) (side-at-least k h (taken .depth .high)) (taken .depth .low)
 
   in-range : anyBeyond (refinedNet net w h k) ≡ false
   unfolding refinedNet
   in-range =
       stored-fine fields wide high (λ i j a b x c l.
-      subst (λ (F : Field). natAbs (F (vertexAt i j) l) ≤ 16777216) (our-nets k (field net w x)) (refined-in-range weights weights-pass net w h given k i j x c a b l))
+      subst (λ (F : Field). natAbs (F (vertexAt i j) l) ≤ 16777216) (our-nets k (field net w x)) (refined-in-range weights weights-pass net w h (taken .given) k i j x c a b l))
 
   front : cut left wide high ≡ refinedNet net w h k
   front =
@@ -118,10 +118,10 @@ module _ (net : List ℤ) (w h k : ℕ) (out : List ℤ) (depth : Depth w h k) (
 
   pub refined-accepted : AcceptedNet left wide high
   refined-accepted =
-      let fits : length (refinedNet net w h k) ≤ length out = omega (arith, refined-length net w h k, roomy) in
+      let fits : length (refinedNet net w h k) ≤ length out = omega (arith, refined-length net w h k, taken .roomy) in
       record {
         size = size;
-        long = le-ltb (length left) (numbers wide high) (omega (arith, length-over (refinedNet net w h k) out fits, roomy));
+        long = le-ltb (length left) (numbers wide high) (omega (arith, length-over (refinedNet net w h k) out fits, taken .roomy));
         inRange = ap anyBeyond front ∙ in-range;
       }
 
@@ -163,8 +163,8 @@ module _ (net : List ℤ) (w h k : ℕ) (out : List ℤ) (depth : Depth w h k) (
         record {
           answered = refl;
           point = refl;
-          near = λ x c. subst (λ (z : ℤ). NearSpline (field net w x) w h k p q z) (each x c) (demand-three net w h given k p q x c place .0);
-          within = λ x c t o l. subst (λ (z : ℤ). WithinControls (field net w x) t z) (each x c) (demand-three net w h given k p q x c place .1 t o l);
+          near = λ x c. subst (λ (z : ℤ). NearSpline (field net w x) w h k p q z) (each x c) (demand-three net w h (taken .given) k p q x c place .0);
+          within = λ x c t o l. subst (λ (z : ℤ). WithinControls (field net w x) t z) (each x c) (demand-three net w h (taken .given) k p q x c place .1 t o l);
         }
       where
         three-numbers : (f : ℕ → ℤ) (x : ℕ) → x < 3 → f x ≡ number (f 0 ∷ f 1 ∷ f 2 ∷ []) x
@@ -179,9 +179,9 @@ pub refined-points : RefinedPoints
 refined-points net w h k out scratch e p q place =
     let t = refine-taken net w h k (length out) (length scratch) e in
     subst (Claimed net w h k p q)
-    (point-answered net w h k out (t .depth) (t .given) (t .roomy) p q place
+    (point-answered net w h k out t p q place
     ∙ ap (λ (l : List ℤ). pointAnswer l (sideAfter k w) (sideAfter k h) p q) (when-accepted (refusalOf net w h k out scratch) (over (refinedNet net w h k) out) out e))
-    (claimed net w h k out (t .depth) (t .given) (t .roomy) p q place)
+    (claimed net w h k out t p q place)
 
 -- of the answer of the call that does both
 pub answer-claimed : (net : List ℤ) (w h k p q : ℕ) (out scratch : List ℤ) {told : ℕ × List ℤ} → refusalAt net w h k p q false out scratch ≡ 0 →
@@ -190,6 +190,6 @@ answer-claimed net w h k p q out scratch none e =
     let t = point-taken net w h k p q false (length out) (length scratch) none in
     subst (Claimed net w h k p q)
     (accepted-answer (refusalAt net w h k p q false out scratch) (refinedSurfacePoint net w h k p q) none
-    (point-of-refined net w h k out (t .0 .depth) (t .0 .given) (t .0 .roomy) p q (t .1))
+    (point-of-refined net w h k out (t .0) p q (t .1))
     ∙ sym e)
-    (claimed net w h k out (t .0 .depth) (t .0 .given) (t .0 .roomy) p q (t .1))
+    (claimed net w h k out (t .0) p q (t .1))

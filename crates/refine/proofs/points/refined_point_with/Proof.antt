@@ -26,6 +26,9 @@ refusal s =
 abbrev result : tie.Start → List ℤ
 result s = refinedNet (s .args .net .now) (s .args .w) (s .args .h) (s .args .k)
 
+abbrev values : tie.Start → List ℤ
+values s = refinedSurfacePoint (s .args .net .now) (s .args .w) (s .args .h) (s .args .k) (s .args .p) (s .args .q)
+
 -- nothing is refused
 module _ (c : tie.Else1) where
   none : refusal (c .before .before) ≡ 0
@@ -46,9 +49,10 @@ refusal-at-requires c κs = search needs
 returns : tie.Need-returns
 returns c =
     let s = c .before .before in
+    let a = s .args in
     let e = c .before .refusal-at .ensures in (
-      refused-answer (refusal s) (refinedSurfacePoint (s .args .net .now) (s .args .w) (s .args .h) (s .args .k) (s .args .p) (s .args .q)) e (c .if1 .taken),
-      left-refused (refusal s) (s .args .k) (s .args .w) (s .args .h) (result s) (s .args .out .now) (s .args .scratch .now) (λ z. c .if1 .taken (e ∙ z)),
+      refused-answer (refusal s) (values s) e (c .if1 .taken),
+      left-refused (refusal s) (a .k) (a .w) (a .h) (result s) (a .out .now) (a .scratch .now) (λ z. c .if1 .taken (e ∙ z)),
     )
 
 refine-steps-requires : tie.Need-refine-steps-requires
@@ -75,17 +79,15 @@ returns-2 : tie.Need-returns-2
 returns-2 c =
     let e = c .before .before .before .before .before .before .before .before .before in
     let s = e .before .before in
+    let a = s .args in
     let t = taken e in
-    let net = s .args .net .now in
-    let wide = sideAfter (s .args .k) (s .args .w) in
-    let high = sideAfter (s .args .k) (s .args .h) in
-    let steps = c .before .before .before .before .before .before .refine-steps .ensures in
+    let steps = c .before .before .before .before .before .before .refine-steps in
     let told =
     c .surface-point .ensures
-    ∙ (λ i. pointAnswer (steps .0 i) (c .before .before .before .side-after .ensures i) (c .before .before .side-after2 .ensures i) (s .args .p) (s .args .q))
-    ∙ sym (point-answered net (s .args .w) (s .args .h) (s .args .k) (s .args .out .now) (t .0 .depth) (t .0 .given) (t .0 .roomy) (s .args .p) (s .args .q) (t .1)) in (
-      told ∙ accepted-answer (refusal s) (refinedSurfacePoint net (s .args .w) (s .args .h) (s .args .k) (s .args .p) (s .args .q)) (none e) (point-of-refined net (s .args .w) (s .args .h) (s .args .k) (s .args .out .now) (t .0 .depth) (t .0 .given) (t .0 .roomy) (s .args .p) (s .args .q) (t .1)),
-      left-accepted (refusal s) (s .args .k) (s .args .w) (s .args .h) (result s) (s .args .out .now) (s .args .scratch .now) (c .before .before .before .before .before .before .refine-steps .last .1 .1 .1 .1 .1 .0) (none e) (steps .0) (steps .1),
+    ∙ (λ i. pointAnswer (steps .ensures .0 i) (c .before .before .before .side-after .ensures i) (c .before .before .side-after2 .ensures i) (a .p) (a .q))
+    ∙ sym (point-answered (a .net .now) (a .w) (a .h) (a .k) (a .out .now) (t .0) (a .p) (a .q) (t .1)) in (
+      told ∙ accepted-answer (refusal s) (values s) (none e) (point-of-refined (a .net .now) (a .w) (a .h) (a .k) (a .out .now) (t .0) (a .p) (a .q) (t .1)),
+      left-accepted (refusal s) (a .k) (a .w) (a .h) (result s) (a .out .now) (a .scratch .now) (steps .last .1 .1 .1 .1 .1 .0) (none e) (steps .ensures .0) (steps .ensures .1),
     )
 
 pub refined-point-with-spec : {M : Type 1} → statement M

@@ -1,6 +1,8 @@
 -- `refine::refining::refine` meets its contract.
 use mathlib.Core.Path.{_≡_, sym, _∙_}
+use mathlib.Core.List.{List}
 use Prim.Native.Nat.{ℕ}
+use lib.IntN.{ℤ}
 use lib.ListN.{length}
 use borrow.Author.Needs.{needs}
 use borrow.Author.Tests.{ltb-false}
@@ -13,6 +15,9 @@ use Rattle.refine.proofs.refining.refine.Tie as tie
 
 abbrev refusal : tie.Start → ℕ
 refusal s = refusalOf (s .args .net .now) (s .args .w) (s .args .h) (s .args .k) (s .args .out .now) (s .args .scratch .now)
+
+abbrev result : tie.Start → List ℤ
+result s = refinedNet (s .args .net .now) (s .args .w) (s .args .h) (s .args .k)
 
 -- nothing is refused
 module _ (c : tie.Then1) where
@@ -42,16 +47,21 @@ returns : tie.Need-returns
 returns c =
     let e = c .before .before .before .before .before in
     let s = e .before .before in
-    let r = refusal s in
-    (carried-out r (none e), left-accepted r (s .args .k) (s .args .w) (s .args .h) (refinedNet (s .args .net .now) (s .args .w) (s .args .h) (s .args .k)) (s .args .out .now) (s .args .scratch .now) (c .before .before .refine-steps .last .1 .1 .1 .1 .1 .0) (none e) (c .before .before .refine-steps .ensures .0) (c .before .before .refine-steps .ensures .1))
+    let a = s .args in
+    let steps = c .before .before .refine-steps in (
+      carried-out (refusal s) (none e),
+      left-accepted (refusal s) (a .k) (a .w) (a .h) (result s) (a .out .now) (a .scratch .now) (steps .last .1 .1 .1 .1 .1 .0) (none e) (steps .ensures .0) (steps .ensures .1),
+    )
 
 returns-2 : tie.Need-returns-2
 returns-2 c =
     let call = c .before in
     let s = call .before in
-    let r = refusal s in
-    let e = call .refusal-of .ensures in
-    (not-carried-out r e (c .if1 .left), left-refused r (s .args .k) (s .args .w) (s .args .h) (refinedNet (s .args .net .now) (s .args .w) (s .args .h) (s .args .k)) (s .args .out .now) (s .args .scratch .now) (λ z. c .if1 .left (e ∙ z)))
+    let a = s .args in
+    let e = call .refusal-of .ensures in (
+      not-carried-out (refusal s) e (c .if1 .left),
+      left-refused (refusal s) (a .k) (a .w) (a .h) (result s) (a .out .now) (a .scratch .now) (λ z. c .if1 .left (e ∙ z)),
+    )
 
 pub refine-spec : {M : Type 1} → statement M
 refine-spec =

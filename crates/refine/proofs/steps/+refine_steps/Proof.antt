@@ -1,4 +1,4 @@
--- `refine::steps::+refine_steps` meets its contract.
+-- `refine::steps::refine_steps`, which calls itself with one step less, meets its contract.
 use mathlib.Core.Path.{refl, _∙_}
 use Prim.Native.Nat.{ℕ, _<_, _-_, _≤_}
 use native.Mathlib.Omega.{arith}
@@ -66,7 +66,10 @@ refine-steps-refine-steps-requires : (t : ℕ) → refine-steps-lts.Need-refine-
 refine-steps-refine-steps-requires t c κs =
     let s = c .before .before .before in
     let two : 2 ≤ s .args .k = c .before .before .if1 .left in
-    (omega (arith, s .pre .0, two), (shallower (s .pre .1 .0), s .pre .1 .1, omega (arith, scratch-needed (s .args .k) (s .args .w) (s .args .h) two, s .pre .1 .3), omega (arith, scratch-before (s .pre .1 .0), s .pre .1 .2)))
+    let needed = scratch-needed (s .args .k) (s .args .w) (s .args .h) two in (
+      omega (arith, s .pre .0, two),
+      (shallower (s .pre .1 .0), s .pre .1 .1, omega (arith, needed, s .pre .1 .3), omega (arith, scratch-before (s .pre .1 .0), s .pre .1 .2)),
+    )
 
 refine-steps-last-step-requires : (t : ℕ) → refine-steps-lts.Need-last-step-requires (
   few-steps-reads.Asked,
@@ -78,10 +81,12 @@ refine-steps-last-step-requires : (t : ℕ) → refine-steps-lts.Need-last-step-
 ) (refine-steps-at t) refine-steps.Post
 refine-steps-last-step-requires t c κs =
     let s = c .before .before .before .before .before .before .before .before in
-    let two : 2 ≤ s .args .k = c .before .before .before .before .before .before .before .if1 .left in
+    let a = s .args in
+    let two : 2 ≤ a .k = c .before .before .before .before .before .before .before .if1 .left in
+    let needed = scratch-needed (a .k) (a .w) (a .h) two in
     let before = c .before .before .before .before .refine-steps .ensures in
-    let size = scratch-after (s .args .net .now) (s .args .scratch .now) (s .args .w) (s .args .h) (s .args .k) two (s .pre .1 .3) (before .0) in
-    (omega arith, s .pre .1 .0, omega (arith, scratch-needed (s .args .k) (s .args .w) (s .args .h) two, s .pre .1 .3, size .0), omega (arith, s .pre .1 .2, before .1 .0))
+    let size = scratch-after (a .net .now) (a .scratch .now) (a .w) (a .h) (a .k) two (s .pre .1 .3) (before .0) in
+    (omega arith, s .pre .1 .0, omega (arith, needed, s .pre .1 .3, size .0), omega (arith, s .pre .1 .2, before .1 .0))
 
 refine-steps-same-length : (t : ℕ) → refine-steps-lts.Need-same-length (
   few-steps-reads.Asked,
@@ -132,13 +137,16 @@ refine-steps-returns-2 : (t : ℕ) → refine-steps-lts.Need-returns-2 (
   last-step-reads.Learnt,
 ) (refine-steps-at t) refine-steps.Post
 refine-steps-returns-2 t c =
-    let s = c .before .before .before .before .before .before .before .before .before .before in
-    let two : 2 ≤ s .args .k = c .before .before .before .before .before .before .before .before .before .if1 .left in
-    let before = c .before .before .before .before .before .before .refine-steps .ensures in (
+    let call = c .before .before .before .before .before .before in
+    let s = call .before .before .before .before in
+    let a = s .args in
+    let two : 2 ≤ a .k = call .before .before .before .if1 .left in
+    let before = call .refine-steps .ensures in
+    let mid = call .refine-steps .last .1 .1 .1 .1 .1 .0 in (
       c .before .last-step .ensures
-          ∙ (λ t. over (refinedNet (before .0 t) (sideAfter (s .args .k - 1) (s .args .w)) (sideAfter (s .args .k - 1) (s .args .h)) 1) (c .before .before .before .before .before .before .refine-steps .last .1 .1 .1 .1 .1 .0))
-          ∙ output-after (s .args .net .now) (s .args .out .now) (s .args .scratch .now) (c .before .before .before .before .before .before .refine-steps .last .1 .1 .1 .1 .1 .0) (s .pre .1 .0) (omega arith) (before .1),
-      scratch-after (s .args .net .now) (s .args .scratch .now) (s .args .w) (s .args .h) (s .args .k) two (s .pre .1 .3) (before .0),
+          ∙ (λ t. over (refinedNet (before .0 t) (sideAfter (a .k - 1) (a .w)) (sideAfter (a .k - 1) (a .h)) 1) mid)
+          ∙ output-after (a .net .now) (a .out .now) (a .scratch .now) mid (s .pre .1 .0) (omega arith) (before .1),
+      scratch-after (a .net .now) (a .scratch .now) (a .w) (a .h) (a .k) two (s .pre .1 .3) (before .0),
     )
 
 pub +refine-steps-spec : {M : Type 1} → statement M

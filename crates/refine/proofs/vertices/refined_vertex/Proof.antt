@@ -50,16 +50,24 @@ rule-of-kind-requires-4 : tie.Need-rule-of-kind-requires-4
 rule-of-kind-requires-4 c κs = (lit< tt, ends (c .before .before) _ _ (omega arith) (omega arith), ends (c .before .before) _ _ (omega arith) (omega arith))
 
 returns : tie.Need-returns
-returns c = c .rule-of-kind .ensures ∙ by-kind (c .before .before .before .args .net .now) (c .before .before .before .args .w) (c .before .before .before .args .i) (c .before .before .before .args .j) true true (lt-ltb _ _ (c .before .if2 .taken)) (lt-ltb _ _ (c .before .before .if1 .taken))
+returns c =
+    let a = c .before .before .before .args in
+    c .rule-of-kind .ensures ∙ by-kind (a .net .now) (a .w) (a .i) (a .j) true true (lt-ltb _ _ (c .before .if2 .taken)) (lt-ltb _ _ (c .before .before .if1 .taken))
 
 returns-2 : tie.Need-returns-2
-returns-2 c = c .rule-of-kind2 .ensures ∙ by-kind (c .before .before .before .args .net .now) (c .before .before .before .args .w) (c .before .before .before .args .i) (c .before .before .before .args .j) false true (le-ltb _ _ (c .before .if2 .left)) (lt-ltb _ _ (c .before .before .if1 .taken))
+returns-2 c =
+    let a = c .before .before .before .args in
+    c .rule-of-kind2 .ensures ∙ by-kind (a .net .now) (a .w) (a .i) (a .j) false true (le-ltb _ _ (c .before .if2 .left)) (lt-ltb _ _ (c .before .before .if1 .taken))
 
 returns-3 : tie.Need-returns-3
-returns-3 c = c .rule-of-kind3 .ensures ∙ by-kind (c .before .before .before .args .net .now) (c .before .before .before .args .w) (c .before .before .before .args .i) (c .before .before .before .args .j) true false (lt-ltb _ _ (c .before .if3 .taken)) (le-ltb _ _ (c .before .before .if1 .left))
+returns-3 c =
+    let a = c .before .before .before .args in
+    c .rule-of-kind3 .ensures ∙ by-kind (a .net .now) (a .w) (a .i) (a .j) true false (lt-ltb _ _ (c .before .if3 .taken)) (le-ltb _ _ (c .before .before .if1 .left))
 
 returns-4 : tie.Need-returns-4
-returns-4 c = c .rule-of-kind4 .ensures ∙ kept-alone _ _ _ ∙ by-kind (c .before .before .before .args .net .now) (c .before .before .before .args .w) (c .before .before .before .args .i) (c .before .before .before .args .j) false false (le-ltb _ _ (c .before .if3 .left)) (le-ltb _ _ (c .before .before .if1 .left))
+returns-4 c =
+    let a = c .before .before .before .args in
+    c .rule-of-kind4 .ensures ∙ kept-alone _ _ _ ∙ by-kind (a .net .now) (a .w) (a .i) (a .j) false false (le-ltb _ _ (c .before .if3 .left)) (le-ltb _ _ (c .before .before .if1 .left))
 
 pub refined-vertex-spec : {M : Type 1} → statement M
 refined-vertex-spec =

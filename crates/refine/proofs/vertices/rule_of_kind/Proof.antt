@@ -18,7 +18,10 @@ refined-triangle-requires : tie.Need-refined-triangle-requires
 refined-triangle-requires c κs = search needs
 
 returns : tie.Need-returns
-returns c = c .refined-triangle .ensures ∙ (λ t. refinedTriangle (c .before .weight-table .ensures t) (c .before .before .before .before .args .kind) (c .before .before .before .load .ensures t) (c .before .before .load2 .ensures t))
+returns c =
+    let kind = c .before .before .before .before .args .kind in
+    c .refined-triangle .ensures
+    ∙ (λ t. refinedTriangle (c .before .weight-table .ensures t) kind (c .before .before .before .load .ensures t) (c .before .before .load2 .ensures t))
 
 pub rule-of-kind-spec : {M : Type 1} → statement M
 rule-of-kind-spec =
