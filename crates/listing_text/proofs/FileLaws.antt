@@ -19,11 +19,11 @@ use Rattle.refine.specs.RefinedNet.{refinedNet}
 use Rattle.refine.specs.TurnedAway.{tooShort, sizeFaults, netFaults, refineRefusal}
 use Rattle.refine.proofs.RefinedPoints.{Taken, refine-taken, refined-accepted, refined-coordinate, point-of-refined}
 use Rattle.refine.proofs.CutNets.{cut-refine-refusal, cut-refined}
-use Rattle.netfile.specs.NetFile.{points, fileWidth, fileHeight, fileNumbers}
-use Rattle.netfile.specs.TurnedAway.{headFaults, bodyFaults, readFaults, readRefusal, shortFor}
+use Rattle.netfile.specs.NetFile.{fileWidth, fileHeight, fileNumbers}
+use Rattle.netfile.specs.TurnedAway.{readFaults, readRefusal, shortFor}
 use Rattle.netfile.specs.Answers.{answer, readNet}
 use Rattle.netfile.specs.Promises.{Readable}
-use Rattle.netfile.proofs.ReadLaws.{head-numbered, body-numbered}
+use Rattle.netfile.proofs.ReadLaws.{read-numbered}
 use Rattle.netfile.proofs.AcceptedFiles.{read-front}
 use Rattle.listing_text.specs.Listing.{headLine, pointLine, refusalLine, vertexLine, listing}
 use Rattle.listing_text.specs.Printed.{bufferSize, listTold, listRefusal, refinedFile, ReadyToList}
@@ -56,12 +56,9 @@ module _ (file : List ℕ) (lent : List ℤ) (space : ℕ) where
   module _ (taken : Readable file lent) where
     pub refusal-after : refineRefusal (readNet file lent) w h 1 short ≡ listRefusal file (length lent) space
     refusal-after =
-        let n = points w h in
-        let early = shortFor file (length lent) in
         cut-refine-refusal (readNet file lent) w h short 1
         ∙ ap (λ (l : List ℤ). refineRefusal l w h 1 short) (read-front file lent taken)
-        ∙ fault-after reading later
-        (none-clear reading (numbered-append (headFaults file early) (bodyFaults file n) (head-numbered file early) (body-numbered file n)) taken)
+        ∙ fault-after reading later (none-clear reading (read-numbered file (shortFor file (length lent))) taken)
 
     pub refined-after : refinedNet (readNet file lent) w h 1 ≡ refinedFile file
     refined-after = cut-refined (readNet file lent) w h 1 ∙ ap (λ (l : List ℤ). refinedNet l w h 1) (read-front file lent taken)
@@ -90,11 +87,9 @@ nothing-refused : (file : List ℕ) (room space : ℕ) → listRefusal file room
 nothing-refused file room space none =
     let w = fileWidth file in
     let h = fileHeight file in
-    let n = points w h in
-    let early = shortFor file room in
-    let reading = readFaults file early in
+    let reading = readFaults file (shortFor file room) in
     let later = sizeFaults w h 1 ++ netFaults (fileNumbers file) w h (tooShort w h 1 space 0) in
-    let first = numbered-append (headFaults file early) (bodyFaults file n) (head-numbered file early) (body-numbered file n) in
+    let first = read-numbered file (shortFor file room) in
     let all = none-clear (reading ++ later) (numbered-append reading later first (lit< tt, (lit< tt, (lit< tt, (lit< tt, (lit< tt, tt)))))) none in
     clear-none later (clear-parts reading later all .1)
 

@@ -32,13 +32,18 @@ pub body-numbered : (file : List ℕ) (n : ℕ) → Numbered (bodyFaults file n)
 body-numbered file n =
     numbered-append (runs n (λ i. pointFaults (fromPoint file i))) (endFaults (fromPoint file n)) (points-numbered file n) (end-numbered (fromPoint file n))
 
+pub read-numbered : (file : List ℕ) (short : Bool) → Numbered (readFaults file short)
+read-numbered file short =
+    let n = points (fileWidth file) (fileHeight file) in
+    numbered-append (headFaults file short) (bodyFaults file n) (head-numbered file short) (body-numbered file n)
+
 -- where nothing is refused, no fault is there, and the lent outputs are long enough
 pub read-parts : (file : List ℕ) (short : Bool) → readRefusal file short ≡ 0 →
     Clear (headFaults file short) × Clear (bodyFaults file (points (fileWidth file) (fileHeight file)))
 read-parts file short none =
     let n = points (fileWidth file) (fileHeight file) in
     clear-parts (headFaults file short) (bodyFaults file n)
-    (none-clear (readFaults file short) (numbered-append (headFaults file short) (bodyFaults file n) (head-numbered file short) (body-numbered file n)) none)
+    (none-clear (readFaults file short) (read-numbered file short) none)
 
 pub read-fits : (file : List ℕ) (short : Bool) → readRefusal file short ≡ 0 → short ≡ false
 read-fits file short none = read-parts file short none .0 .1 .1 .1 .1 .1 .1 .0

@@ -11,7 +11,7 @@ ghost use Rattle.subdivision.specs.Refinement.{sideAfter};
 ghost use Rattle.refine.specs.RefinedNet.{numbersAfter};
 ghost use Rattle.refine.specs.TurnedAway.{tooDeep, tooShort, sizeFaults, netFaults};
 
-// A side of n vertices after k steps.
+// A side of n vertices after k steps. For this crate's other modules, which have refused every other side and k.
 pub fn side_after(n: usize, k: usize) -> usize
     requires { ⌜ (1 ≤ n) × (n ≤ 1025) × (k ≤ 6) ⌝ }
     ensures { λ r. ⌜ r ≡ sideAfter k n ⌝ }
@@ -74,7 +74,7 @@ fn too_short(w: usize, h: usize, k: usize, room: usize, spare: usize) -> bool
     shorter_than(spare, w, h, k - 1)
 }
 
-// The first of 2, 5 and 3, or 0, of a net whose size is not refused; `short` is whether another output is too short.
+// The first of 2, 5 and 3, or 0; `short` is whether another output is too short. For `refine` and `refined_point`, which have refused a size and a k by 1 and 4 first.
 pub fn net_refusal(
     net: &[i32],
     w: usize,

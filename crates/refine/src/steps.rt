@@ -1,4 +1,5 @@
-// One refinement of a lent net, and k of them to and fro between two lent slices.
+// One refinement of a lent net, and k of them to and fro between two lent slices. For `refine` and `refined_point`, which have refused all that `refine_steps` does not take; what the
+// others ask is met in this file.
 use crate::depth::side_after;
 use crate::vertices::refined_vertex;
 use crate::vertices::store_triangle;

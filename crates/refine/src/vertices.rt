@@ -1,4 +1,4 @@
-// The refined control triangle at one vertex of the refined grid, and its storage.
+// The refined control triangle at one vertex of the refined grid, and its storage. For one step's loop in `steps.rt`, which is seen to meet what these ask.
 use net::load;
 use net::store_point;
 use subdivision::refined_triangle;
