@@ -2,25 +2,46 @@
 use mathlib.Core.Path.{_≡_, sym, ap, _∙_}
 use mathlib.Core.Bool.{Bool, true, false}
 use mathlib.Core.List.{List, map}
-use Prim.Native.Nat.{ℕ, _≤_, _<_}
-use lib.Dec.{ltb, lit<}
+use Prim.Native.Nat.{ℕ, _≤_, _<_, _-_}
+use lib.Dec.{ltb, lit<, leb}
 use lib.IntN.{ℤ}
 use lib.ListN.{length}
-use borrow.Author.Tests.{ltb-false, eq-eqb, ne-eqb}
+use borrow.Author.Tests.{ltb-false, eq-eqb, ne-eqb, leb-false}
+use native.Mathlib.Omega.{arith}
 use Rattle.exact.specs.WeightedSum.{weightedSum, Within}
 use Rattle.exact.specs.Filling.{over, runs}
 use Rattle.net.specs.Net.{Triangle, triangleAt, field}
 use Rattle.net.specs.TurnedAway.{badSize, shortNet}
-use Rattle.net.proofs.Faults.{fault-none, when-accepted, when-refused}
-use Rattle.surface.specs.BezierNet.{controlsOf, bezierPoints, bezierNumbers}
-use Rattle.surface.specs.TurnedAway.{noTriangle, triangleBeyond, bezierRefusal}
-use Rattle.surface.specs.Answers.{bezierAnswer, bezierOutput}
-use Rattle.surface.specs.SurfacePoint.{o123}
-use Rattle.surface.specs.Evaluation.{InNet, cornerControls, turned, valuesIn, bezierRows, threeAt}
-use Rattle.surface.proofs.Corners.{in-net-triangle, value-size}
-use Rattle.surface.proofs.CornerForm.{inForm, form-values, loaded-form, form-within}
-use Rattle.surface.proofs.Weights.{points-by-rows}
+use Rattle.net.proofs.Faults.{fault-none, when-accepted, when-refused, or-none}
+use Rattle.net.proofs.Places.{good-size}
+use Rattle.places.specs.Places.{o123}
+use Rattle.places.proofs.Cells.{InGrid}
+use Rattle.triangles.specs.BezierPoints.{controlsOf}
+use Rattle.triangles.specs.TurnedAway.{triangleBeyond}
+use Rattle.triangles.specs.Corners.{InNet, cornerControls, turned, valuesIn}
+use Rattle.triangles.proofs.Corners.{value-size, in-net}
+use Rattle.triangles.proofs.CornerForm.{inForm, form-values, loaded-form, form-within}
+use Rattle.bezier.specs.BezierNet.{bezierPoints, bezierNumbers}
+use Rattle.bezier.specs.TurnedAway.{noTriangle, bezierRefusal}
+use Rattle.bezier.specs.Answers.{bezierAnswer, bezierOutput}
+use Rattle.bezier.specs.Weights.{bezierRows, threeAt}
+use Rattle.bezier.proofs.Weights.{points-by-rows}
 
+-- the cell of a triangle is one of the grid, and the triangle lies in the net
+pub cell-in-grid : (w h i j : ℕ) → badSize w h ≡ false → noTriangle w h i j ≡ false → InGrid w h i j
+cell-in-grid w h i j e f =
+    let s = good-size w h e in
+    let t = or-none (leb (w - 1) i) (leb (h - 1) j) f in
+    record {
+      column = omega (arith, leb-false (w - 1) i (t .0), s .wide);
+      row = omega (arith, leb-false (h - 1) j (t .1), s .high);
+    }
+
+pub in-net-triangle : (net : List ℤ) (w h i j : ℕ) →
+    badSize w h ≡ false → noTriangle w h i j ≡ false → shortNet net w h ≡ false → InNet net w i j
+in-net-triangle net w h i j e₁ e₆ e₂ = in-net net e₁ e₂ (cell-in-grid w h i j e₁ e₆)
+
+-- what is known where nothing is refused
 pub record GoodTriangle (net : List ℤ) (w i j : ℕ) (down : Bool) (room : ℕ) : Type 0 where
   pub lies : InNet net w i j
   pub room-enough : 57 ≤ room

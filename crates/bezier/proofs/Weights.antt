@@ -16,10 +16,11 @@ use Rattle.exact.proofs.SignedCode.{reads-back}
 use Rattle.exact.proofs.Sizes.{fits-of-size}
 use Rattle.exact.proofs.WeightedSumLaws.{sizes, sum-sizes}
 use Rattle.net.specs.Net.{Index, one, two, three, rank}
-use Rattle.surface.specs.BezierNet.{Controls, controlList, bezierPoints}
-use Rattle.surface.specs.SurfacePoint.{o123}
-use Rattle.surface.specs.Evaluation.{bezierRows}
-use Rattle.surface.proofs.CornerForm.{inForm, summed, s, u, v, r, m, z}
+use Rattle.places.specs.Places.{o123}
+use Rattle.triangles.specs.BezierPoints.{Controls, controlList}
+use Rattle.triangles.proofs.CornerForm.{inForm, summed, s, u, v, r, m, z}
+use Rattle.bezier.specs.BezierNet.{bezierPoints}
+use Rattle.bezier.specs.Weights.{bezierRows}
 
 -- ---- row n of the table gives point n
 

@@ -1,13 +1,13 @@
 // Bézier nets: the 19 points of a triangle times 36, as weighted sums of its nine control values.
 use crate::answers::Answer;
-use crate::triangles::coordinate_values;
-use crate::triangles::load_triangle;
-use crate::triangles::triangle_beyond;
-use crate::triangles::turn;
 use exact::weighted_sum9;
 use net::bad_size;
 use net::short_net;
 use net::store_point;
+use triangles::coordinate_values;
+use triangles::load_triangle;
+use triangles::triangle_beyond;
+use triangles::turn;
 ghost use mathlib.Core.Path.{_≡_};
 ghost use mathlib.Core.Bool.{false};
 ghost use mathlib.Core.List.{map};
@@ -16,9 +16,9 @@ ghost use lib.ListN.{length};
 ghost use Rattle.exact.specs.WeightedSum.{weightedSum, Within};
 ghost use Rattle.exact.specs.Filling.{over, runs};
 ghost use Rattle.net.specs.TurnedAway.{badSize};
-ghost use Rattle.surface.specs.TurnedAway.{noTriangle, bezierRefusal};
-ghost use Rattle.surface.specs.Answers.{answerTold, bezierAnswer, bezierOutput};
-ghost use Rattle.surface.specs.Evaluation.{bezierRows, threeAt};
+ghost use Rattle.bezier.specs.TurnedAway.{noTriangle, bezierRefusal};
+ghost use Rattle.bezier.specs.Answers.{answerTold, bezierAnswer, bezierOutput};
+ghost use Rattle.bezier.specs.Weights.{bezierRows, threeAt};
 
 // The 19 points times 36, in document 01's order and in one coordinate, of the values of ck, cn, cm at each corner. The weights of a point sum to
 // 36, so it fits for values of the net range.

@@ -2,7 +2,7 @@
 use mathlib.Core.Path.{_≡_, refl, sym, subst, _∙_}
 use mathlib.Core.Bool.{Bool, true, false, cond}
 use mathlib.Core.List.{List, [], _∷_}
-use mathlib.Core.Logic.{_⊎_, ⊎-elim}
+use mathlib.Core.Logic.{⊎-elim}
 use Prim.Native.Nat.{ℕ, zero, suc, _+_, _*_, _≤_, _<_}
 use native.Mathlib.Omega.{arith}
 use lib.Dec.{T, lit<}
@@ -14,16 +14,17 @@ use borrow.Author.Tests.{ltb-false}
 use Rattle.exact.specs.Rounding.{rounded}
 use Rattle.exact.proofs.Order.{≤ℤ-trans, ≤ℤ-total, size-low, size-high, size-between}
 use Rattle.net.specs.Net.{Index, one, two, three, rank, vertexAt, Field, numbers, start, field}
+use Rattle.net.specs.TurnedAway.{AcceptedNet}
 use Rattle.net.proofs.Places.{good-size, vertex-ends, nine-numbers, field-number}
 use Rattle.net.proofs.Ranges.{in-range}
-use Rattle.surface.specs.BezierNet.{Controls, controlsOf, controlList}
-use Rattle.surface.specs.SurfacePoint.{spline}
+use Rattle.triangles.specs.BezierPoints.{Controls, controlsOf, controlList}
+use Rattle.spline.specs.Spline.{spline}
 use Rattle.subdivision.specs.Refinement.{sideAfter}
 use Rattle.subdivision.specs.WeightTable.{weights, weights-pass}
-use Rattle.subdivision.specs.Promises.{Between, AcceptedNet, RefinedInRange}
-use Rattle.subdivision.specs.DemandThree.{least, greatest, DemandThree}
-use Rattle.subdivision.proofs.Distance.{our-nets, point-distance}
-use Rattle.subdivision.proofs.Range.{point-between, net-between}
+use Rattle.bounds.specs.Promises.{Between, RefinedInRange}
+use Rattle.bounds.specs.DemandThree.{least, greatest, DemandThree}
+use Rattle.bounds.proofs.Distance.{our-nets, point-distance}
+use Rattle.bounds.proofs.Range.{point-between, net-between}
 
 -- ---- the least and the greatest of nine values
 

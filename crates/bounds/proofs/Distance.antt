@@ -16,18 +16,19 @@ use Rattle.exact.proofs.Expressions.{var, lit, _⊖_, _⊗_, identity}
 use Rattle.exact.proofs.WeightedSumLaws.{NotNegative, Near, sum-distance, multiple-of-values}
 use Rattle.exact.proofs.RoundingLaws.{nearest}
 use Rattle.net.specs.Net.{Index, one, two, three, Vertex, corner, Field}
-use Rattle.surface.specs.BezierNet.{controlsOf, controlList}
-use Rattle.surface.specs.SurfacePoint.{OnGrid, chosen, spline}
-use Rattle.surface.proofs.Cells.{chosen-lies}
+use Rattle.places.specs.Places.{OnGrid, chosen}
+use Rattle.places.proofs.Cells.{chosen-lies}
+use Rattle.triangles.specs.BezierPoints.{controlsOf, controlList}
+use Rattle.spline.specs.Spline.{spline}
+use Rattle.spline.specs.Shares.{sharesIn, controlWeights}
+use Rattle.spline.proofs.ControlWeights.{shares-total, weights-not-negative}
+use Rattle.spline.proofs.Located.{located}
+use Rattle.spline.proofs.AnyTriangle.{chosen-value}
 use Rattle.subdivision.specs.Refinement.{kindOf, beginOf, endOf, steps, refinements, exactRefinements, sideAfter}
 use Rattle.subdivision.specs.WeightTable.{Table, kindNumber, weightsAt, passes, six, exactBy, refinedBy, weights, weights-pass}
-use Rattle.subdivision.specs.Shares.{sharesIn, controlWeights}
-use Rattle.subdivision.specs.Promises.{NetDistance, SplineDistance, PointDistance}
 use Rattle.subdivision.proofs.Tables.{kind-below, row-total, row-not-negative, our-table, our-refinement}
-use Rattle.subdivision.proofs.ControlWeights.{shares-total, weights-not-negative}
-use Rattle.subdivision.proofs.Located.{located}
-use Rattle.subdivision.proofs.AnyTriangle.{chosen-value}
 use Rattle.subdivision.proofs.SameSpline.{side-at-least, same-splines}
+use Rattle.bounds.specs.Promises.{NetDistance, SplineDistance, PointDistance}
 
 -- ---- weighted sums of values that are near, each side times a factor of its own
 

@@ -2,7 +2,7 @@
 -- triangle's own corners, and so everything stays between them at every depth.
 use mathlib.Core.Path.{_≡_, refl, sym, ap, subst}
 use mathlib.Core.Bool.{Bool, true, false}
-use Prim.Native.Nat.{ℕ, zero, suc, _+_, _-_, _*_, _^_, _≤_, _<_}
+use Prim.Native.Nat.{ℕ, zero, suc, _+_, _*_, _^_, _≤_, _<_}
 use native.Mathlib.Nat.{mul-le-mul, mul-one, pow-suc}
 use native.Mathlib.Decide.{decLe}
 use native.Mathlib.Omega.{arith}
@@ -12,20 +12,21 @@ use Rattle.exact.specs.Rounding.{rounded}
 use Rattle.exact.proofs.WeightedSumLaws.{all-in-range}
 use Rattle.exact.proofs.RoundingLaws.{mean-range}
 use Rattle.net.specs.Net.{Index, one, two, three, Vertex, vertexAt, Triangle, triangleAt, corner, Field}
-use Rattle.surface.specs.BezierNet.{controlsOf, controlList}
-use Rattle.surface.specs.SurfacePoint.{chosen, spline}
-use Rattle.surface.proofs.Cells.{chosen-lies}
+use Rattle.places.specs.Places.{chosen}
+use Rattle.places.proofs.Cells.{chosen-lies}
+use Rattle.triangles.specs.BezierPoints.{controlsOf, controlList}
+use Rattle.spline.specs.Spline.{spline}
+use Rattle.spline.specs.Shares.{OfNet, sharesIn, controlWeights}
+use Rattle.spline.proofs.ControlWeights.{shares-total, weights-not-negative}
+use Rattle.spline.proofs.Located.{Located, acrossBy, upBy, located}
+use Rattle.spline.proofs.AnyTriangle.{chosen-of-net, spline-by-shares}
 use Rattle.subdivision.specs.Refinement.{steps, refinedSide, sideAfter}
 use Rattle.subdivision.specs.WeightTable.{Table, kindNumber, weightsAt, passes, six, refinedBy}
-use Rattle.subdivision.specs.Shares.{OfNet, sharesIn, controlWeights}
-use Rattle.subdivision.specs.Promises.{Between, CornersBetween, NetBetween, MeanOfCorners, VertexMean, VertexBetween, PointBetween, NetStaysBetween}
 use Rattle.subdivision.proofs.Tables.{kind-below, row-length, row-total, row-not-negative}
-use Rattle.subdivision.proofs.ControlWeights.{shares-total, weights-not-negative}
-use Rattle.subdivision.proofs.Located.{Located, acrossBy, upBy, located}
-use Rattle.subdivision.proofs.AnyTriangle.{chosen-of-net, spline-by-shares}
 use Rattle.subdivision.proofs.Means.{child-mean}
 use Rattle.subdivision.proofs.SameSpline.{side-at-least}
 use Rattle.subdivision.proofs.Children.{Child, child, child-of-net, source, kindBetween, beginBetween, endBetween, in-child}
+use Rattle.bounds.specs.Promises.{Between, CornersBetween, NetBetween, MeanOfCorners, VertexMean, VertexBetween, PointBetween, NetStaysBetween}
 
 -- ---- one step
 

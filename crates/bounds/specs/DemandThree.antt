@@ -8,11 +8,12 @@ use lib.IntN.{ℤ, pos, negsuc, natAbs, _-ℤ_, _*ℤ_}
 use lib.Signed.{_≤ℤ_, leZ}
 use Rattle.exact.specs.Rounding.{rounded}
 use Rattle.net.specs.Net.{Triangle, Field, field}
-use Rattle.surface.specs.BezierNet.{controlsOf, controlList}
-use Rattle.surface.specs.SurfacePoint.{OnGrid, LiesIn, spline}
+use Rattle.net.specs.TurnedAway.{AcceptedNet}
+use Rattle.places.specs.Places.{OnGrid, LiesIn}
+use Rattle.triangles.specs.BezierPoints.{controlsOf, controlList}
+use Rattle.spline.specs.Spline.{spline}
+use Rattle.spline.specs.Shares.{OfNet}
 use Rattle.subdivision.specs.Refinement.{refinements, sideAfter}
-use Rattle.subdivision.specs.Shares.{OfNet}
-use Rattle.subdivision.specs.Promises.{AcceptedNet}
 
 -- 'the least and the greatest of the nine control values'
 abbrev pub least : List ℤ → ℤ

@@ -12,8 +12,8 @@ use lib.Signed.{_≤ℤ_, _<ℤ_}
 use borrow.Author.Tests.{ne-eqb}
 use Rattle.exact.proofs.Parts.{integers}
 use Rattle.net.proofs.Faults.{cond-false}
-use Rattle.listing_text.specs.Decimal.{digit, digitsOf, decimal, signedDecimal}
-use Rattle.listing_text.specs.Promises.{DecimalSteps, AllDigits, OnlyDigits, NoLeadingZero, toldAfter, signedTold, DigitsTell, TextTells}
+use Rattle.decimal.specs.Decimal.{digit, digitsOf, decimal, signedDecimal}
+use Rattle.decimal.specs.Promises.{DecimalSteps, AllDigits, OnlyDigits, NoLeadingZero, toldAfter, signedTold, DigitsTell, TextTells}
 
 -- ---- the definition without turns
 

@@ -8,7 +8,7 @@ use lib.ListN.{length, length-append}
 use lib.Seq.{sets, length-sets}
 use Rattle.exact.specs.Filling.{over}
 use Rattle.exact.proofs.FillingLaws.{sets-after, sets-over}
-use Rattle.listing_text.specs.Storing.{Stored}
+use Rattle.decimal.specs.Storing.{Stored}
 
 module _ {old : List ℕ} {at : ℕ} {xs mid : List ℕ} {m : ℕ} (first : Stored old at xs mid m) where
   pub stored-then : {ys new : List ℕ} {after : ℕ} → Stored mid m ys new after → Stored old at (xs ++ ys) new after

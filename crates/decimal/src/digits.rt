@@ -5,8 +5,8 @@ ghost use mathlib.Core.List.{[], _∷_, _++_};
 ghost use Prim.Native.Nat.{_+_, _≤_, _<_};
 ghost use lib.IntN.{natAbs};
 ghost use lib.ListN.{length};
-ghost use Rattle.listing_text.specs.Decimal.{digit, decimal, signedDecimal};
-ghost use Rattle.listing_text.specs.Storing.{Stored};
+ghost use Rattle.decimal.specs.Decimal.{digit, decimal, signedDecimal};
+ghost use Rattle.decimal.specs.Storing.{Stored};
 
 // The byte of a digit.
 fn digit_byte(d: usize) -> u8

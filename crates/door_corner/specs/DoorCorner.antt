@@ -8,11 +8,13 @@ use lib.IntN.{ℤ, pos, negsuc, _+ℤ_, _-ℤ_, _*ℤ_}
 use Rattle.exact.specs.Rounding.{rounded, floorQuotient}
 use Rattle.exact.specs.Filling.{runs}
 use Rattle.net.specs.Net.{one, two, three, vertexAt, triangleAt, controlPoint, controlTriangle, field}
-use Rattle.surface.specs.BezierNet.{controlsOf, bezierPoints}
-use Rattle.surface.specs.SurfacePoint.{spline, coordinate}
+use Rattle.triangles.specs.BezierPoints.{controlsOf}
+use Rattle.spline.specs.Spline.{spline}
+use Rattle.bezier.specs.BezierNet.{bezierPoints}
+use Rattle.surface.specs.SurfacePoint.{coordinate}
 use Rattle.subdivision.specs.Refinement.{refinement, exactRefinement}
-use Rattle.refine.specs.RefinedNet.{stored, refinedNet}
-use Rattle.netfile.specs.NetFile.{zKind, numberBytes, wordBytes}
+use Rattle.steps.specs.RefinedNet.{stored, refinedNet}
+use Rattle.words.specs.NetFile.{zKind, numberBytes, wordBytes}
 
 -- the nine numbers of vertex (i, j), where a = 1200i, b = 1200j and c1 has height z: 'x of c1, c2, c3 is 1200i + 600, 1200i - 600, 1200i;
 -- y is 1200j, 1200j + 600, 1200j - 600; z is 0 but for c1 of (0, 0)'

@@ -6,11 +6,12 @@ use lib.IntN.{pos}
 use Rattle.exact.specs.Filling.{runs}
 use Rattle.exact.specs.Rounding.{rounded, floorQuotient}
 use Rattle.net.specs.Net.{controlPoint, controlTriangle}
-use Rattle.surface.specs.SurfacePoint.{spline, coordinate}
+use Rattle.spline.specs.Spline.{spline}
+use Rattle.surface.specs.SurfacePoint.{coordinate}
 use Rattle.subdivision.specs.Refinement.{refinement, exactRefinement}
-use Rattle.refine.specs.RefinedNet.{stored, refinedNet}
-use Rattle.netfile.specs.NetFile.{wordBytes, firstWord, pointBytes, netFile, firstPoint}
-use Rattle.listing_text.specs.Decimal.{digitsOf, decimal, signedDecimal}
+use Rattle.steps.specs.RefinedNet.{stored, refinedNet}
+use Rattle.words.specs.NetFile.{wordBytes, firstWord, pointBytes, netFile, firstPoint}
+use Rattle.decimal.specs.Decimal.{digitsOf, decimal, signedDecimal}
 use Rattle.listing_text.specs.Listing.{headLine, pointLine, listing}
 use Rattle.listing_text.specs.Printed.{printed}
 use Rattle.door_corner.specs.DoorCorner.{doorCorner}

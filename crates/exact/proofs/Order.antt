@@ -8,8 +8,7 @@ use native.Mathlib.Decide.{decLe}
 use native.Mathlib.Omega.{arith}
 use lib.IntN.{ℤ, pos, negsuc, negℤ, natAbs, _+ℤ_, _-ℤ_, _*ℤ_}
 use lib.Signed.{_≤ℤ_, _<ℤ_}
-use Rattle.exact.proofs.Parts.{integers, posPart, negPart, sum-parts, difference-parts, product-parts, negation-parts, size-parts}
-use Rattle.exact.proofs.Parts.{le-parts, lt-parts, parts-le, parts-lt}
+use Rattle.exact.proofs.Parts.{integers, posPart, negPart, sum-parts, difference-parts, product-parts, negation-parts, size-parts, le-parts, lt-parts, parts-le, parts-lt}
 
 -- ---- order
 

@@ -6,7 +6,7 @@ use listing_text::list_piece;
 use listing_text::list_refusal;
 use listing_text::refine_file;
 ghost use Prim.Native.Nat.{_*_, _≤_};
-ghost use Rattle.subdivision.specs.Promises.{AcceptedNet};
+ghost use Rattle.net.specs.TurnedAway.{AcceptedNet};
 
 // Piece n of the listing; answers whether it was written. What it and `print_listing` ask is met in this file.
 fn print_piece(net: &[i32], w: usize, h: usize, n: usize) -> bool

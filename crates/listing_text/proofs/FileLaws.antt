@@ -10,20 +10,21 @@ use lib.ListN.{length, getD}
 use Rattle.exact.specs.Filling.{over, runs}
 use Rattle.exact.proofs.FillingLaws.{runs-same}
 use Rattle.net.specs.Net.{number}
-use Rattle.net.specs.TurnedAway.{Fault}
+use Rattle.net.specs.TurnedAway.{Fault, AcceptedNet}
 use Rattle.net.proofs.Faults.{when-accepted, numbered-append, none-clear, clear-none, clear-parts, fault-before, fault-after, answered}
-use Rattle.surface.specs.SurfacePoint.{OnGrid}
+use Rattle.places.specs.Places.{OnGrid}
 use Rattle.subdivision.specs.Refinement.{refinedSide, sideAfter}
-use Rattle.subdivision.specs.Promises.{AcceptedNet}
-use Rattle.refine.specs.RefinedNet.{refinedNet}
+use Rattle.steps.specs.RefinedNet.{refinedNet}
 use Rattle.refine.specs.TurnedAway.{tooShort, sizeFaults, netFaults, refineRefusal}
-use Rattle.refine.proofs.RefinedPoints.{Taken, refine-taken, refined-accepted, refined-coordinate, point-of-refined}
+use Rattle.refine.proofs.Taken.{Taken, refine-taken}
 use Rattle.refine.proofs.CutNets.{cut-refine-refusal, cut-refined}
-use Rattle.netfile.specs.NetFile.{fileWidth, fileHeight, fileNumbers}
-use Rattle.netfile.specs.TurnedAway.{readFaults, readRefusal, shortFor}
-use Rattle.netfile.specs.Answers.{answer, readNet}
+use Rattle.refined_points.proofs.RefinedPoints.{refined-accepted, refined-coordinate, point-of-refined}
+use Rattle.words.specs.NetFile.{fileWidth, fileHeight, fileNumbers}
+use Rattle.words.specs.Answers.{answer}
+use Rattle.reader.specs.TurnedAway.{readFaults, readRefusal, shortFor}
+use Rattle.reader.specs.Answers.{readNet}
+use Rattle.reader.proofs.ReadLaws.{read-numbered}
 use Rattle.netfile.specs.Promises.{Readable}
-use Rattle.netfile.proofs.ReadLaws.{read-numbered}
 use Rattle.netfile.proofs.AcceptedFiles.{read-front}
 use Rattle.listing_text.specs.Listing.{headLine, pointLine, refusalLine, vertexLine, listing}
 use Rattle.listing_text.specs.Printed.{bufferSize, listTold, listRefusal, refinedFile, ReadyToList}

@@ -1,6 +1,4 @@
--- The laws of the listing's text: digits, what is stored one after the other, the lines, and the pieces of a listing.
-pub mod DecimalLaws
-pub mod StoringLaws
+-- The laws of lines, of pieces and of files.
 pub mod LineLaws
 pub mod PieceLaws
 pub mod FileLaws

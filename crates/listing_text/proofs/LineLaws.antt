@@ -5,9 +5,9 @@ use Prim.Native.Nat.{ℕ, _^_, _≤_, _<_}
 use native.Mathlib.Omega.{arith}
 use lib.IntN.{ℤ, natAbs}
 use lib.ListN.{length, length-append}
-use Rattle.listing_text.specs.Decimal.{decimal, signedDecimal}
+use Rattle.decimal.specs.Decimal.{decimal, signedDecimal}
+use Rattle.decimal.proofs.DecimalLaws.{decimal-length, signed-length}
 use Rattle.listing_text.specs.Listing.{space, lineEnd, netWord, refusedWord, headLine, pointLine, refusalLine, longestLine}
-use Rattle.listing_text.proofs.DecimalLaws.{decimal-length, signed-length}
 
 pub head-parts : (w h : ℕ) → (netWord ++ space) ++ (decimal w ++ space) ++ (decimal h ++ lineEnd) ≡ headLine w h
 unfolding headLine

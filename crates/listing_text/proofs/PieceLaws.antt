@@ -10,12 +10,12 @@ use lib.IntN.{ℤ, pos}
 use lib.ListN.{getD}
 use Rattle.exact.specs.Filling.{runs}
 use Rattle.exact.proofs.FillingLaws.{runs-same}
+use Rattle.net.specs.TurnedAway.{AcceptedNet}
 use Rattle.net.proofs.Faults.{answered, not-accepted}
 use Rattle.surface.specs.SurfacePoint.{coordinate, surfacePoint}
 use Rattle.surface.specs.TurnedAway.{pointRefusal}
 use Rattle.surface.specs.Answers.{pointAnswer}
-use Rattle.subdivision.specs.Promises.{AcceptedNet}
-use Rattle.subdivision.proofs.Accepted.{point-not-refused}
+use Rattle.surface.proofs.Accepted.{point-not-refused}
 use Rattle.listing_text.specs.Listing.{headLine, vertexLine, listing, pieceText}
 use Rattle.listing_text.specs.Promises.{PiecesList}
 

@@ -6,7 +6,7 @@ use Prim.Native.Nat.{ℕ, zero, suc, _*_, _/_, _%_}
 use lib.IntN.{ℤ, pos, negsuc}
 use Rattle.exact.specs.Filling.{runs}
 use Rattle.surface.specs.SurfacePoint.{coordinate}
-use Rattle.listing_text.specs.Decimal.{digitsOf, decimal, signedDecimal}
+use Rattle.decimal.specs.Decimal.{digitsOf, decimal, signedDecimal}
 
 abbrev pub space : List ℕ
 space = 32 ∷ []

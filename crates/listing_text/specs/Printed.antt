@@ -5,15 +5,14 @@ use mathlib.Core.List.{List, [], _∷_, _++_}
 use Prim.Native.Nat.{ℕ}
 use lib.IntN.{ℤ}
 use lib.ListN.{take}
-use Rattle.net.specs.TurnedAway.{firstFault, accepted}
+use Rattle.net.specs.TurnedAway.{firstFault, accepted, AcceptedNet}
 use Rattle.subdivision.specs.Refinement.{refinedSide}
-use Rattle.subdivision.specs.Promises.{AcceptedNet}
-use Rattle.refine.specs.RefinedNet.{refinedNet}
+use Rattle.steps.specs.RefinedNet.{refinedNet}
 use Rattle.refine.specs.TurnedAway.{tooShort, sizeFaults, netFaults}
-use Rattle.netfile.specs.NetFile.{fileWidth, fileHeight, fileNumbers}
-use Rattle.netfile.specs.TurnedAway.{readFaults, shortFor}
-use Rattle.netfile.specs.Answers.{answer}
-use Rattle.listing_text.specs.Decimal.{digitsOf, decimal}
+use Rattle.words.specs.NetFile.{fileWidth, fileHeight, fileNumbers}
+use Rattle.words.specs.Answers.{answer}
+use Rattle.reader.specs.TurnedAway.{readFaults, shortFor}
+use Rattle.decimal.specs.Decimal.{digitsOf, decimal}
 use Rattle.listing_text.specs.Listing.{listing, refusalLine}
 use Rattle.listing_text.specs.declared.files.ListAnswer.{ListAnswer}
 use Rattle.listing_text.specs.declared.files.ListAnswer.the-variants as listed

@@ -1,6 +1,6 @@
 // From a net file to the refined net that is listed.
-use netfile::ReadAnswer;
-use netfile::read;
+use reader::ReadAnswer;
+use reader::read;
 use refine::RefineAnswer;
 use refine::refine;
 ghost use mathlib.Core.Path.{_≡_};
@@ -9,9 +9,10 @@ ghost use mathlib.Core.List.{[], _∷_};
 ghost use lib.ListN.{length};
 ghost use Rattle.net.specs.TurnedAway.{badSize, outputAfter};
 ghost use Rattle.subdivision.specs.Refinement.{refinedSide};
-ghost use Rattle.refine.specs.RefinedNet.{refinedNet};
+ghost use Rattle.steps.specs.RefinedNet.{refinedNet};
 ghost use Rattle.refine.specs.TurnedAway.{tooShort, refineRefusal};
-ghost use Rattle.netfile.specs.Answers.{answer, readNet};
+ghost use Rattle.words.specs.Answers.{answer};
+ghost use Rattle.reader.specs.Answers.{readNet};
 ghost use Rattle.listing_text.specs.Printed.{listTold, listRefusal, refinedFile, listAnswer, ReadyToList};
 
 // The width and the height of the refined net.

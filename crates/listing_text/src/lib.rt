@@ -1,5 +1,4 @@
 // The listing program's text: from a net file to the refined net, and its listing in lines.
-mod digits;
 mod files;
 mod lines;
 mod pieces;

@@ -1,12 +1,12 @@
 // The lines, each from the front of a lent output. What the inner functions ask is met by `list_refusal` and `list_piece`.
-use crate::digits::store_count;
-use crate::digits::store_number;
+use decimal::store_count;
+use decimal::store_number;
 ghost use mathlib.Core.Path.{_≡_};
 ghost use Prim.Native.Nat.{_≤_};
 ghost use lib.ListN.{length};
 ghost use Rattle.exact.specs.Filling.{over};
+ghost use Rattle.decimal.specs.Storing.{Stored};
 ghost use Rattle.listing_text.specs.Listing.{headLine, pointLine, refusalLine, longestLine};
-ghost use Rattle.listing_text.specs.Storing.{Stored};
 
 // A text as it is.
 fn store_text(text: &[u8], out: &mut [u8]) -> usize

@@ -7,7 +7,7 @@ ghost use mathlib.Core.Path.{_≡_};
 ghost use Prim.Native.Nat.{_*_, _≤_};
 ghost use lib.ListN.{length};
 ghost use Rattle.exact.specs.Filling.{over};
-ghost use Rattle.subdivision.specs.Promises.{AcceptedNet};
+ghost use Rattle.net.specs.TurnedAway.{AcceptedNet};
 ghost use Rattle.listing_text.specs.Listing.{pieceText, longestLine};
 
 // Piece n of the listing over the front of `out`, and how long it is. For the listing program, which lends room for a line and a net that is taken: such a net refuses no vertex its

@@ -129,3 +129,12 @@ field-size net w v e l k x h =
     ∙ getD-drop (start w v) net at (pos 0)
     ∙ sym (field-number net w v k x h) in
     subst (λ (z : ℤ). natAbs z ≤ 16777216) same (in-range (vertexNumbers net w v) e at long)
+
+-- where P, Q and T stand among the corners
+pub below-three : (k : Index) {n : ℕ} → n ≡ rank k → n < 3
+below-three k e = subst (λ (n : ℕ). n < 3) (sym e) (at k)
+  where
+    at : (k : Index) → rank k < 3
+    at one = lit< tt
+    at two = lit< tt
+    at three = lit< tt

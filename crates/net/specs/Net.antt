@@ -21,6 +21,30 @@ previous one = three
 previous two = one
 previous three = two
 
+-- whether two indices are the same
+abbrev pub same : Index → Index → Bool
+same one one = true
+same two two = true
+same three three = true
+same one two = false
+same one three = false
+same two one = false
+same two three = false
+same three one = false
+same three two = false
+
+-- whether Q is the index after P
+abbrev pub isNext : Index → Index → Bool
+isNext one two = true
+isNext two three = true
+isNext three one = true
+isNext one one = false
+isNext one three = false
+isNext two one = false
+isNext two two = false
+isNext three two = false
+isNext three three = false
+
 -- how many indices stand before k in the order 1, 2, 3
 abbrev pub rank : Index → ℕ
 rank one = 0

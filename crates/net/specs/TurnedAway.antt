@@ -4,7 +4,7 @@ use mathlib.Core.Bool.{Bool, true, false, _||_, cond}
 use mathlib.Core.List.{List, [], _∷_, _++_}
 use Prim.Native.Nat.{ℕ}
 use lib.Dec.{leb, ltb, eqb}
-use lib.ListN.{length, replicate}
+use lib.ListN.{length, replicate, take}
 use lib.IntN.{ℤ, pos, negsuc, natAbs}
 use Rattle.exact.specs.Filling.{over}
 use Rattle.net.specs.Net.{vertexAt, numbers, vertexNumbers}
@@ -52,6 +52,12 @@ abbrev pub anyBeyond : List ℤ → Bool
 anyBeyond [] = false
 anyBeyond (z ∷ zs) = beyond z || anyBeyond zs
 
+-- a net that is taken: rows 1, 2 and 3 of document 01's table do not turn it away
+pub record AcceptedNet (net : List ℤ) (w h : ℕ) : Type 0 where
+  pub size : badSize w h ≡ false
+  pub long : shortNet net w h ≡ false
+  pub inRange : anyBeyond (take (numbers w h) net) ≡ false
+
 -- the companion of the vertex part: 1, 6, 2 or none
 abbrev pub vertexRefusal : List ℤ → ℕ → ℕ → ℕ → ℕ → ℕ
 vertexRefusal net w h i j =
@@ -88,3 +94,7 @@ last-part = refl
 no-part : vertexPart (replicate 37 (pos 7)) 2 2 1 2 ≡ []
 unfolding vertexPart
 no-part = refl
+
+-- worked case: a net of 2 by 2 with 36 numbers at the limit of the range is taken
+taken : AcceptedNet (replicate 36 (pos 16777216)) 2 2
+taken = record { size = refl; long = refl; inRange = refl }

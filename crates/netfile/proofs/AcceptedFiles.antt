@@ -17,13 +17,15 @@ use Rattle.net.specs.TurnedAway.{beyond, anyBeyond}
 use Rattle.net.proofs.Beyond.{cut}
 use Rattle.net.proofs.Faults.{Clear, clear-none, clear-parts, clear-run, or-no, when-accepted, accepted-answer}
 use Rattle.net.proofs.Ranges.{any-runs}
-use Rattle.netfile.specs.NetFile.{word, kindOf, payloadOf, widthKind, heightKind, xKind, yKind, zKind, endKind, wordBytes, firstWord, points, numberBytes, pointBytes, netFile, fileSize, fileWidth, fileHeight, firstNumber, firstPoint, fromPoint, fileNumbers}
-use Rattle.netfile.specs.TurnedAway.{wordFaults, numberFaults, pointFaults, endFaults, headFaults, bodyFaults, readRefusal, shortFor, writeFaults, writeRefusal, noRoom}
-use Rattle.netfile.specs.Answers.{readNet}
-use Rattle.netfile.specs.Promises.{AllBytes, Writable, Readable, WritesBack, OneLength}
-use Rattle.netfile.proofs.WordLaws.{payload-small, word-of-parts, bytes-of-first, same-first, complement-signed}
-use Rattle.netfile.proofs.Parsing.{point-parts}
-use Rattle.netfile.proofs.ReadLaws.{read-parts, head-there, GoodHead, good-head, points-there}
+use Rattle.words.specs.NetFile.{word, kindOf, payloadOf, widthKind, heightKind, xKind, yKind, zKind, endKind, wordBytes, firstWord, points, numberBytes, pointBytes, netFile, fileSize, fileWidth, fileHeight, firstNumber, firstPoint, fromPoint, fileNumbers, AllBytes}
+use Rattle.words.specs.TurnedAway.{wordFaults}
+use Rattle.words.proofs.WordLaws.{payload-small, word-of-parts, bytes-of-first, same-first, complement-signed}
+use Rattle.writer.specs.TurnedAway.{writeFaults, writeRefusal, noRoom}
+use Rattle.reader.specs.TurnedAway.{numberFaults, pointFaults, endFaults, headFaults, bodyFaults, readRefusal, shortFor}
+use Rattle.reader.specs.Answers.{readNet}
+use Rattle.reader.proofs.Parsing.{point-parts}
+use Rattle.reader.proofs.ReadLaws.{read-parts, head-there, GoodHead, good-head, points-there}
+use Rattle.netfile.specs.Promises.{Writable, Readable, WritesBack, OneLength}
 
 -- ---- what it is known by
 

@@ -13,11 +13,14 @@ use Rattle.exact.proofs.FillingLaws.{take-over, length-over}
 use Rattle.net.specs.Net.{numbers}
 use Rattle.net.specs.TurnedAway.{badSize, shortNet, anyBeyond, outputAfter}
 use Rattle.net.proofs.Faults.{clear-none, or-none, answered, not-accepted, accepted-answer, refused-answer, when-accepted, when-refused}
-use Rattle.netfile.specs.NetFile.{netFile, fileSize}
-use Rattle.netfile.specs.TurnedAway.{writeFaults, writeRefusal, noRoom}
-use Rattle.netfile.specs.Answers.{answer, writeAnswerWith, writeOutputWith, readAnswer, readNet, copyRefusal}
+use Rattle.words.specs.NetFile.{netFile, fileSize}
+use Rattle.words.specs.Answers.{answer}
+use Rattle.writer.specs.TurnedAway.{writeFaults, writeRefusal, noRoom}
+use Rattle.writer.specs.Answers.{writeAnswerWith, writeOutputWith}
+use Rattle.writer.proofs.WriteLaws.{file-length, write-clear}
+use Rattle.reader.specs.Answers.{readAnswer, readNet}
+use Rattle.netfile.specs.Answers.{copyRefusal}
 use Rattle.netfile.specs.Promises.{Writable}
-use Rattle.netfile.proofs.WriteLaws.{file-length, write-clear}
 use Rattle.netfile.proofs.WrittenFiles.{reads-back-net}
 
 module _ (net : List ℤ) (w h : ℕ) (out : List ℕ) (back : List ℤ) where

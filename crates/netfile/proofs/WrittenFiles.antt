@@ -18,11 +18,13 @@ use Rattle.net.proofs.Beyond.{cut}
 use Rattle.net.proofs.Faults.{Clear, clear-none, clear-append, clear-runs, or-none, when-accepted, accepted-answer}
 use Rattle.net.proofs.Places.{GoodSize, good-size}
 use Rattle.net.proofs.Ranges.{in-range}
-use Rattle.netfile.specs.NetFile.{word, kindOf, payloadOf, widthKind, heightKind, xKind, yKind, zKind, endKind, complement, signed, wordBytes, firstWord, points, numberBytes, pointBytes, netFile, fileSize, fileWidth, fileHeight, firstNumber, firstPoint, fromPoint, fileNumbers}
-use Rattle.netfile.specs.TurnedAway.{wordFaults, sideFaults, numberFaults, pointFaults, endFaults, headFaults, bodyFaults, readFaults, readRefusal, shortFor, writeRefusal}
+use Rattle.words.specs.NetFile.{word, kindOf, payloadOf, widthKind, heightKind, xKind, yKind, zKind, endKind, complement, signed, wordBytes, firstWord, points, numberBytes, pointBytes, netFile, fileSize, fileWidth, fileHeight, firstNumber, firstPoint, fromPoint, fileNumbers}
+use Rattle.words.specs.TurnedAway.{wordFaults}
+use Rattle.words.proofs.WordLaws.{kind-of-word, payload-of-word, first-of-bytes, complement-small, signed-complement}
+use Rattle.writer.specs.TurnedAway.{writeRefusal}
+use Rattle.writer.proofs.WriteLaws.{word-length, point-length, points-length, GoodNet, good-net}
+use Rattle.reader.specs.TurnedAway.{sideFaults, numberFaults, pointFaults, endFaults, headFaults, bodyFaults, readFaults, readRefusal, shortFor}
 use Rattle.netfile.specs.Promises.{Writable, ReadsBack, OneNet}
-use Rattle.netfile.proofs.WordLaws.{kind-of-word, payload-of-word, first-of-bytes, complement-small, signed-complement}
-use Rattle.netfile.proofs.WriteLaws.{word-length, point-length, points-length, GoodNet, good-net}
 
 -- ---- words at the front
 

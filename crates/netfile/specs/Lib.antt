@@ -1,6 +1,3 @@
--- The definitions that contracts cite: the net file and what stands in one, what is turned away, what the calls answer, and the theorems' statements.
-pub mod NetFile
-pub mod TurnedAway
-pub mod Answers
+-- The statements of the round trip, and what the call that does it answers.
 pub mod Promises
-pub mod LowFirst
+pub mod Answers

@@ -5,16 +5,14 @@ use mathlib.Core.Bool.{Bool, false}
 use mathlib.Core.List.{List, [], _∷_, _++_}
 use Prim.Native.Nat.{ℕ, _≤_, _<_}
 use lib.IntN.{ℤ}
-use lib.ListN.{length, getD, take}
+use lib.ListN.{length, take}
 use Rattle.exact.specs.Filling.{over}
 use Rattle.net.specs.Net.{numbers}
-use Rattle.netfile.specs.NetFile.{netFile, fileWidth, fileHeight}
-use Rattle.netfile.specs.TurnedAway.{shortFor, writeRefusal, readRefusal}
-use Rattle.netfile.specs.Answers.{writeAnswer, writeOutput, readAnswer, readNet}
-
--- the elements of a slice of bytes are bytes
-abbrev pub AllBytes : List ℕ → Type 0
-AllBytes file = (i : ℕ) → getD file i 0 < 256
+use Rattle.words.specs.NetFile.{netFile, fileWidth, fileHeight, AllBytes}
+use Rattle.writer.specs.TurnedAway.{writeRefusal}
+use Rattle.writer.specs.Answers.{writeAnswer, writeOutput}
+use Rattle.reader.specs.TurnedAway.{shortFor, readRefusal}
+use Rattle.reader.specs.Answers.{readAnswer, readNet}
 
 -- a net that the writer takes, given room
 abbrev pub Writable : List ℤ → ℕ → ℕ → Type 0

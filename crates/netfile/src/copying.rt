@@ -1,9 +1,9 @@
 // Writing and reading in one go: the round trip, held to by the code itself.
-use crate::answers::ReadAnswer;
-use crate::answers::WriteAnswer;
-use crate::reading::read;
-use crate::writing::write_with;
 use net::bad_size;
+use reader::ReadAnswer;
+use reader::read;
+use writer::WriteAnswer;
+use writer::write_with;
 ghost use mathlib.Core.Path.{_≡_};
 ghost use mathlib.Core.List.{[], _∷_};
 ghost use mathlib.Core.Bool.{false, cond};
@@ -11,8 +11,10 @@ ghost use lib.Dec.{ltb};
 ghost use lib.ListN.{take};
 ghost use Rattle.net.specs.Net.{numbers};
 ghost use Rattle.net.specs.TurnedAway.{badSize, outputAfter};
-ghost use Rattle.netfile.specs.NetFile.{netFile};
-ghost use Rattle.netfile.specs.Answers.{readTold, answer, copyRefusal};
+ghost use Rattle.words.specs.NetFile.{netFile};
+ghost use Rattle.words.specs.Answers.{answer};
+ghost use Rattle.reader.specs.Answers.{readTold};
+ghost use Rattle.netfile.specs.Answers.{copyRefusal};
 
 // Whether a net of this size does not fit `room` numbers; a bad size is refused before that counts.
 fn too_short_for(w: usize, h: usize, room: usize) -> bool

@@ -1,23 +1,20 @@
 -- Cells of places: where they lie, and what is left of a place in its cell.
 use mathlib.Core.Path.{_≡_, refl, sym, ap, subst, _∙_}
 use mathlib.Core.Bool.{Bool, true, false, cond}
-use mathlib.Core.List.{List}
 use Prim.Native.Nat.{ℕ, _+_, _-_, _*_, _/_, _≤_, _<_, min}
 use native.Mathlib.Nat.{le-refl, le-trans, mul-le-mul, mul-div-le, lt-mul-div-succ, mul-add, mul-one, min-le-left}
 use native.Mathlib.Omega.{arith, min-cases}
 use lib.Dec.{ltb}
-use lib.IntN.{ℤ}
 use mir.Syntax.{w64}
 use mir.Val.{Fits}
 use borrow.Author.Tests.{ltb-true, ltb-false}
 use Rattle.net.specs.Net.{Index, one, two, three}
-use Rattle.net.specs.TurnedAway.{badSize, shortNet}
+use Rattle.net.specs.TurnedAway.{badSize}
 use Rattle.net.proofs.Faults.{or-none}
 use Rattle.net.proofs.Places.{good-size}
-use Rattle.surface.specs.SurfacePoint.{cell, rest, isDown, upShare, downShare, share, OnGrid, chosen, LiesBy, LiesIn}
-use Rattle.surface.specs.TurnedAway.{noPlace}
-use Rattle.surface.specs.Evaluation.{InNet, Placed}
-use Rattle.surface.proofs.Corners.{InGrid, in-net}
+use Rattle.places.specs.Places.{cell, rest, isDown, upShare, downShare, share, OnGrid, chosen, LiesBy, LiesIn}
+use Rattle.places.specs.TurnedAway.{noPlace}
+use Rattle.places.specs.Located.{Placed}
 
 pub record InCell (n p : ℕ) : Type 0 where
   pub inside : cell 1024 n p + 1 < n
@@ -41,15 +38,16 @@ in-cells w h p q e f =
     let g = on-grid 1024 w h p q f in
     (in-cell w p (s .wide) (s .narrow) (g .0), in-cell h q (s .high) (s .low) (g .1))
 
--- the cell of a place of the grid is one of the grid, and both its triangles lie in the net
+-- a cell of the grid
+pub record InGrid (w h i j : ℕ) : Type 0 where
+  pub column : i + 1 < w
+  pub row : j + 1 < h
+
+-- the cell of a place of the grid is one of the grid
 pub cells-in-grid : (w h p q : ℕ) → badSize w h ≡ false → noPlace 1024 w h p q ≡ false → InGrid w h (cell 1024 w p) (cell 1024 h q)
 cells-in-grid w h p q e f =
     let k = in-cells w h p q e f in
     record { column = k .0 .inside; row = k .1 .inside }
-
-pub in-net-place : (net : List ℤ) (w h p q : ℕ) → badSize w h ≡ false → noPlace 1024 w h p q ≡ false → shortNet net w h ≡ false →
-    InNet net w (cell 1024 w p) (cell 1024 h q)
-in-net-place net w h p q e₁ e₆ e₂ = in-net net e₁ e₂ (cells-in-grid w h p q e₁ e₆)
 
 -- what is left in a cell that the code found
 pub left-at : {n p i : ℕ} → i ≡ cell 1024 n p → InCell n p → p - 1024 * i ≤ 1024

@@ -1,13 +1,10 @@
--- Document 01, "Surface point": the exact spline at any edge count D, and the surface point at edge count 1,024.
+-- Document 01, "Surface point": places at any edge count D, the triangle chosen for a place, the shares of its corners and their order, and in which
+-- triangles a place lies.
 use mathlib.Core.Path.{_≡_, refl}
 use mathlib.Core.Bool.{Bool, true, false, cond}
-use mathlib.Core.List.{List, [], _∷_}
 use Prim.Native.Nat.{ℕ, _+_, _-_, _*_, _/_, _≤_, min}
 use lib.Dec.{leb, ltb, lit≤}
-use lib.IntN.{ℤ, pos, _+ℤ_, _*ℤ_}
-use Rattle.exact.specs.Rounding.{rounded}
-use Rattle.net.specs.Net.{Index, one, two, three, Triangle, triangleAt, Field, field}
-use Rattle.surface.specs.BezierNet.{Controls, controlsOf, pointS, pointU, pointV, pointR, pointM, pointZ}
+use Rattle.net.specs.Net.{Index, one, two, three, Triangle, triangleAt}
 
 -- a place (document 01's term: a parameter of the surface, counted in D-ths of an edge) of the grid: 'p up to 1024(w-1), q up to 1024(h-1)'
 abbrev pub OnGrid : ℕ → ℕ → ℕ → ℕ → ℕ → Type 0
@@ -91,36 +88,6 @@ gapB o a = 2 * (a (cornerQ o) - a (cornerT o))
 abbrev pub gapG : Order → (Index → ℕ) → ℕ
 gapG o a = 3 * a (cornerT o)
 
--- A²sP + 2AB·u + 2AG·vP + B²r + 2BG·m + G²z, each point times 36
-abbrev pub quadratic : Bool → Controls → Index → Index → ℕ → ℕ → ℕ → ℤ
-quadratic down c P Q A B G =
-    pos (A * A) *ℤ pointS c P
-    +ℤ pos (2 * (A * B)) *ℤ pointU down c P Q
-    +ℤ pos (2 * (A * G)) *ℤ pointV down c P
-    +ℤ pos (B * B) *ℤ pointR down c P Q
-    +ℤ pos (2 * (B * G)) *ℤ pointM down c P Q
-    +ℤ pos (G * G) *ℤ pointZ down c
-
--- the exact value in a triangle, times 36·D², from the control values and the shares of its corners in a given order
-abbrev pub valueIn : Bool → Controls → Order → (Index → ℕ) → ℤ
-valueIn down c o a = quadratic down c (cornerP o) (cornerQ o) (gapA o a) (gapB o a) (gapG o a)
-
--- the exact spline of a field at place (p, q) of edge count D, times 36·D²
-unfoldable pub spline : Field → ℕ → ℕ → ℕ → ℕ → ℕ → ℤ
-spline F w h D p q =
-    valueIn (chosen D w h p q .down) (controlsOf F (chosen D w h p q)) (orderOf (share D w h p q)) (share D w h p q)
-
--- the surface point in coordinate x: the exact value at edge count 1,024, rounded once
-unfoldable pub coordinate : List ℤ → ℕ → ℕ → ℕ → ℕ → ℕ → ℤ
-coordinate net w h p q x = rounded (spline (field net w x) w h 1024 p q) 37748736
-
--- 36·1024²
-the-factor : 36 * (1024 * 1024) ≡ 37748736
-the-factor = refl
-
-abbrev pub surfacePoint : List ℤ → ℕ → ℕ → ℕ → ℕ → List ℤ
-surfacePoint net w h p q = coordinate net w h p q 0 ∷ coordinate net w h p q 1 ∷ coordinate net w h p q 2 ∷ []
-
 -- 'At edge count D a place lies in the up triangle of cell (i, j) exactly when p - Di and q - Dj are both at least 0 and their sum is at
 -- most D; in the down triangle exactly when both are at most D and their sum is at least D.' Said without a difference.
 abbrev pub LiesUp : ℕ → ℕ → ℕ → ℕ → ℕ → Type 0
@@ -137,7 +104,7 @@ abbrev pub LiesIn : ℕ → ℕ → ℕ → Triangle → Type 0
 LiesIn D p q t = LiesBy (t .down) D p q (t .column) (t .row)
 
 -- worked cases: the last place of a side of two lies in cell 0; place (700, 600) of a net of 2 by 2 lies in the down triangle, with shares 424, 324 and
--- 276; equal shares stay in corner order; at a vertex the exact value is 36·1024² times s; place (1024, 0) lies in the up
+-- 276; equal shares stay in corner order; place (1024, 0) lies in the up
 -- and in the down triangle of cell (0, 0), whose corner it is
 last-cell : (cell 1024 2 1024 ≡ 0) × (rest 1024 2 1024 ≡ 1024) × (cell 1024 3 1024 ≡ 1)
 last-cell = (refl, refl, refl)
@@ -151,10 +118,6 @@ in-down = (refl, refl, refl, refl)
 
 equal-shares : (orderOf (λ k. 3) ≡ o123) × (orderOf (upShare 10 4 4) ≡ o231) × (orderOf (upShare 10 2 4) ≡ o132)
 equal-shares = (refl, refl, refl)
-
-at-a-vertex : spline (λ v k. pos 7) 3 3 1024 1024 1024 ≡ pos 7 *ℤ pos 37748736
-unfolding spline
-at-a-vertex = refl
 
 two-triangles : LiesIn 1024 1024 0 (triangleAt 0 0 false) × LiesIn 1024 1024 0 (triangleAt 0 0 true)
 two-triangles = ((lit≤ tt, lit≤ tt, lit≤ tt), (lit≤ tt, lit≤ tt, lit≤ tt))

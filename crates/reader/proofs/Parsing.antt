@@ -10,10 +10,11 @@ use lib.Seq.{take-all, getD-take, getD-drop}
 use borrow.Author.Tests.{ltb-false, le-ltb}
 use Rattle.net.specs.TurnedAway.{Fault, firstFault, beyond}
 use Rattle.net.proofs.Faults.{Clear, Numbered, none-clear, clear-parts, numbered-append, answered, not-accepted, fault-before}
-use Rattle.netfile.specs.NetFile.{kindOf, payloadOf, signed, firstWord, xKind, yKind, zKind, fromPoint}
-use Rattle.netfile.specs.TurnedAway.{wordFaults, sideFaults, numberFaults, pointFaults}
-use Rattle.netfile.specs.Answers.{answer}
-use Rattle.netfile.proofs.WordLaws.{same-first}
+use Rattle.words.specs.NetFile.{kindOf, payloadOf, signed, firstWord, xKind, yKind, zKind, fromPoint}
+use Rattle.words.specs.TurnedAway.{wordFaults}
+use Rattle.words.specs.Answers.{answer}
+use Rattle.words.proofs.WordLaws.{same-first}
+use Rattle.reader.specs.TurnedAway.{sideFaults, numberFaults, pointFaults}
 
 -- ---- an answer that was matched
 

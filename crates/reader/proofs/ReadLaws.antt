@@ -12,10 +12,10 @@ use Rattle.exact.specs.Filling.{over, runs}
 use Rattle.net.specs.Net.{numbers}
 use Rattle.net.specs.TurnedAway.{firstFault, badSide, badSize}
 use Rattle.net.proofs.Faults.{Clear, Numbered, none-clear, clear-parts, clear-run, fault-after, numbered-append, numbered-runs, answered, accepted-answer, refused-answer, when-accepted, when-refused, or-no, or-none}
-use Rattle.netfile.specs.NetFile.{points, fileWidth, fileHeight, fileNumbers, fromPoint}
-use Rattle.netfile.specs.TurnedAway.{pointFaults, endFaults, headFaults, bodyFaults, readFaults, readRefusal, shortFor}
-use Rattle.netfile.specs.Answers.{headAnswer, readAnswerWith, readNetWith}
-use Rattle.netfile.proofs.Parsing.{refused, point-numbered, next-begins}
+use Rattle.words.specs.NetFile.{points, fileWidth, fileHeight, fileNumbers, fromPoint}
+use Rattle.reader.specs.TurnedAway.{pointFaults, endFaults, headFaults, bodyFaults, readFaults, readRefusal, shortFor}
+use Rattle.reader.specs.Answers.{headAnswer, readAnswerWith, readNetWith}
+use Rattle.reader.proofs.Parsing.{refused, point-numbered, next-begins}
 
 -- ---- the faults have numbers
 

@@ -1,4 +1,4 @@
--- Document 01, "Turned away": the rows of the net file's writer and reader.
+-- Document 01, "Turned away": the rows of the reader, word by word.
 use mathlib.Core.Path.{_≡_, refl}
 use mathlib.Core.Bool.{Bool, not}
 use mathlib.Core.List.{List, [], _∷_, _++_}
@@ -8,24 +8,9 @@ use lib.IntN.{ℤ, pos}
 use lib.ListN.{length, take, drop, replicate}
 use Rattle.exact.specs.Filling.{runs}
 use Rattle.net.specs.Net.{numbers}
-use Rattle.net.specs.TurnedAway.{Fault, firstFault, badSide, badSize, shortNet, beyond, anyBeyond}
-use Rattle.netfile.specs.NetFile.{word, kindOf, payloadOf, widthKind, heightKind, xKind, yKind, zKind, endKind, wordBytes, firstWord, points, pointBytes, netFile, fileSize, fileWidth, fileHeight, firstNumber, fromPoint}
-
--- the writer: 1, 2, 5, 3, and 3 looks at the 9wh numbers; `short` is whether a lent output is too short
-abbrev pub writeFaults : List ℤ → ℕ → ℕ → Bool → List Fault
-writeFaults net w h short =
-    (badSize w h, 1) ∷ (shortNet net w h, 2) ∷ (short, 5) ∷ (anyBeyond (take (numbers w h) net), 3) ∷ []
-
-abbrev pub writeRefusal : List ℤ → ℕ → ℕ → Bool → ℕ
-writeRefusal net w h short = firstFault (writeFaults net w h short)
-
--- an output of so many bytes is too short for the file
-abbrev pub noRoom : ℕ → ℕ → ℕ → Bool
-noRoom w h room = ltb room (fileSize w h)
-
--- a word that is due: 7, fewer than 4 bytes are left; 8, its kind is another
-abbrev pub wordFaults : List ℕ → ℕ → List Fault
-wordFaults left kind = (ltb (length left) 4, 7) ∷ (not (eqb (kindOf (firstWord left)) kind), 8) ∷ []
+use Rattle.net.specs.TurnedAway.{Fault, firstFault, badSide, beyond}
+use Rattle.words.specs.NetFile.{word, payloadOf, widthKind, heightKind, xKind, yKind, zKind, endKind, wordBytes, firstWord, points, pointBytes, netFile, fileWidth, fileHeight, firstNumber, fromPoint}
+use Rattle.words.specs.TurnedAway.{wordFaults}
 
 -- 'word by word: 7, 8, then 1 or 3': 1 at a side's word, 3 at a number's
 abbrev pub sideFaults : List ℕ → ℕ → List Fault
@@ -59,7 +44,7 @@ readRefusal file short = firstFault (readFaults file short)
 abbrev pub shortFor : List ℕ → ℕ → Bool
 shortFor file room = ltb room (numbers (fileWidth file) (fileHeight file))
 
--- ---- worked cases: document 01's examples of 5, 7, 8 and 9, and files that are changed in one place
+-- ---- worked cases: document 01's examples of 7, 8 and 9, and files that are changed in one place
 
 abbrev flat : List ℤ
 flat = replicate 36 (pos 5)
@@ -68,14 +53,12 @@ abbrev found : List ℕ → ℕ → ℕ
 found file room = readRefusal file (shortFor file room)
 
 examples :
-    (writeRefusal flat 2 2 (noRoom 2 2 155) ≡ 5)
-    × (writeRefusal flat 2 2 (noRoom 2 2 156) ≡ 0)
-    × (found [] 36 ≡ 7)
+    (found [] 36 ≡ 7)
     × (found (wordBytes (word 2 2)) 36 ≡ 8)
     × (found (netFile flat 2 2) 36 ≡ 0)
     × (found (netFile flat 2 2 ++ 0 ∷ []) 36 ≡ 9)
 unfolding wordBytes firstWord pointBytes netFile runs
-examples = (refl, refl, refl, refl, refl, refl)
+examples = (refl, refl, refl, refl)
 
 order :
     (found (netFile flat 2 2) 35 ≡ 5)

@@ -1,10 +1,4 @@
-// What the calls answer. `specs/Answers.antt` gives document 01's number and values of each case.
-
-// The count of bytes that were written.
-pub enum WriteAnswer {
-    Written(usize),
-    Refused(u32),
-}
+// What the reader answers. `specs/Answers.antt` gives document 01's number and values of each case.
 
 // The width and the height that were read.
 pub enum ReadAnswer {

@@ -1,12 +1,12 @@
 // The reader: the whole file is looked through before the first number is stored. What the inner functions ask is met by those below them in this file.
 use crate::answers::ReadAnswer;
-use crate::words::Parsed;
-use crate::words::first_number;
-use crate::words::parse_word;
-use crate::words::signed_number;
 use net::bad_side;
 use net::number_beyond;
 use net::store_point;
+use words::Parsed;
+use words::first_number;
+use words::parse_word;
+use words::signed_number;
 ghost use mathlib.Core.Path.{_≡_};
 ghost use mathlib.Core.Bool.{false, _||_};
 ghost use mathlib.Core.List.{[], _∷_};
@@ -16,9 +16,10 @@ ghost use lib.ListN.{length};
 ghost use Rattle.exact.specs.Filling.{over, runs};
 ghost use Rattle.net.specs.Net.{numbers};
 ghost use Rattle.net.specs.TurnedAway.{badSize, firstFault};
-ghost use Rattle.netfile.specs.NetFile.{payloadOf, firstWord, firstPoint, fromPoint};
-ghost use Rattle.netfile.specs.TurnedAway.{sideFaults, numberFaults, pointFaults, endFaults, bodyFaults, shortFor};
-ghost use Rattle.netfile.specs.Answers.{wordTold, readTold, answer, headAnswer, readAnswerWith, readNetWith, readAnswer, readNet};
+ghost use Rattle.words.specs.NetFile.{payloadOf, firstWord, firstPoint, fromPoint};
+ghost use Rattle.words.specs.Answers.{wordTold, answer};
+ghost use Rattle.reader.specs.TurnedAway.{sideFaults, numberFaults, pointFaults, endFaults, bodyFaults, shortFor};
+ghost use Rattle.reader.specs.Answers.{readTold, headAnswer, readAnswerWith, readNetWith, readAnswer, readNet};
 
 // A side's word: its payload, or 7, 8 or 1.
 fn parse_side(left: &[u8], kind: u32) -> Parsed

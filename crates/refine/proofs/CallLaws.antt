@@ -8,8 +8,9 @@ use borrow.Author.Tests.{ne-eqb}
 use Rattle.exact.specs.Filling.{over}
 use Rattle.net.specs.TurnedAway.{accepted, outputAfter}
 use Rattle.net.proofs.Faults.{when-accepted, when-refused}
-use Rattle.refine.specs.RefinedNet.{scratchNeed}
-use Rattle.refine.specs.Answers.{freeScratch, UnchangedFrom}
+use Rattle.steps.specs.RefinedNet.{scratchNeed}
+use Rattle.steps.specs.Steps.{UnchangedFrom}
+use Rattle.refine.specs.Answers.{freeScratch}
 
 -- what stands in the output and in the scratch
 abbrev pub Left : ℕ → ℕ → ℕ → ℕ → (result out scratch out′ scratch′ : List ℤ) → Type 0

@@ -11,9 +11,9 @@ use Rattle.net.specs.TurnedAway.{firstFault, anyBeyond}
 use Rattle.net.proofs.Beyond.{cut, cut-short, cut-field}
 use Rattle.net.proofs.Places.{vertex-ends}
 use Rattle.subdivision.specs.Refinement.{sideAfter, refinements}
-use Rattle.refine.specs.RefinedNet.{refinedNet}
-use Rattle.refine.specs.TurnedAway.{netFaults, refineRefusal, refinedPointRefusal, sizeFaults, offGrid}
-use Rattle.refine.proofs.StoredNets.{Agree, stored-same, refinement-local}
+use Rattle.steps.specs.RefinedNet.{refinedNet}
+use Rattle.steps.proofs.StoredNets.{Agree, stored-same, refinement-local}
+use Rattle.refine.specs.TurnedAway.{netFaults, refineRefusal, sizeFaults}
 
 -- k steps look only at vertices of the net
 refinements-local : (k w h : ℕ) (F G : Field) → Agree w h F G → Agree (sideAfter k w) (sideAfter k h) (refinements k F) (refinements k G)
@@ -28,12 +28,9 @@ cut-refined net w h k =
     (λ x c. refinements-local k w h (field net w x) (field (cut net w h) w x) (λ i j a b l. cut-field net w h (vertexAt i j) (vertex-ends {w = w} {h = h} {i = i} {j = j} a b) l x c))
 
 module _ (net : List ℤ) (w h : ℕ) (short : Bool) where
-  cut-faults : netFaults net w h short ≡ netFaults (cut net w h) w h short
+  pub cut-faults : netFaults net w h short ≡ netFaults (cut net w h) w h short
   cut-faults =
       λ t. (cut-short net w h t, 2) ∷ (short, 5) ∷ (anyBeyond (sym (take-take (numbers w h) (numbers w h) net (le-refl (numbers w h))) t), 3) ∷ []
 
   pub cut-refine-refusal : (k : ℕ) → refineRefusal net w h k short ≡ refineRefusal (cut net w h) w h k short
   cut-refine-refusal k = λ t. firstFault (sizeFaults w h k ++ cut-faults t)
-
-  pub cut-refined-point-refusal : (k p q : ℕ) → refinedPointRefusal net w h k p q short ≡ refinedPointRefusal (cut net w h) w h k p q short
-  cut-refined-point-refusal k p q = λ t. firstFault (sizeFaults w h k ++ (offGrid w h k p q, 6) ∷ cut-faults t)

@@ -1,8 +1,5 @@
--- The laws of refining stored nets: sides after k steps, where the numbers of a stored net stand, one refined vertex, and demand 3 of the calls.
-pub mod Sides
-pub mod StoredNets
-pub mod RefinedVertices
-pub mod StepLaws
-pub mod RefinedPoints
+-- The laws of refining: sizes and steps that are not refused, answers, and numbers that do not matter.
+pub mod Depths
 pub mod CallLaws
+pub mod Taken
 pub mod CutNets

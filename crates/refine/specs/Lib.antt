@@ -1,6 +1,3 @@
--- The definitions that contracts cite: the refined net as it is stored, what is turned away, what the calls answer, and demand 3 of the calls.
-pub mod RefinedNet
+-- The definitions that contracts cite: what is turned away, and what refining answers and leaves.
 pub mod TurnedAway
-pub mod Steps
 pub mod Answers
-pub mod DemandThree

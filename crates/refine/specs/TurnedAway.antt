@@ -1,4 +1,4 @@
--- Document 01, "Turned away": the rows of refining, in the order 1, 4, 2, 5, 3, and of the refined point, where 6 comes after 4.
+-- Document 01, "Turned away": the rows of refining, in the order 1, 4, 2, 5, 3.
 use mathlib.Core.Path.{_≡_, refl}
 use mathlib.Core.Bool.{Bool, true, false, _||_}
 use mathlib.Core.List.{List, [], _∷_, _++_}
@@ -8,9 +8,8 @@ use lib.IntN.{ℤ, pos}
 use lib.ListN.{take, replicate}
 use Rattle.net.specs.Net.{numbers}
 use Rattle.net.specs.TurnedAway.{Fault, firstFault, badSize, shortNet, anyBeyond}
-use Rattle.surface.specs.TurnedAway.{noPlace}
 use Rattle.subdivision.specs.Refinement.{sideAfter}
-use Rattle.refine.specs.RefinedNet.{numbersAfter, scratchNeed}
+use Rattle.steps.specs.RefinedNet.{numbersAfter, scratchNeed}
 
 -- 4: k above 6, or a refined side above 1,025
 abbrev pub tooDeep : ℕ → ℕ → ℕ → Bool
@@ -30,13 +29,6 @@ netFaults net w h short = (shortNet net w h, 2) ∷ (short, 5) ∷ (anyBeyond (t
 abbrev pub refineRefusal : List ℤ → ℕ → ℕ → ℕ → Bool → ℕ
 refineRefusal net w h k short = firstFault (sizeFaults w h k ++ netFaults net w h short)
 
--- a place off the refined grid is 6
-abbrev pub offGrid : ℕ → ℕ → ℕ → ℕ → ℕ → Bool
-offGrid w h k p q = noPlace 1024 (sideAfter k w) (sideAfter k h) p q
-
-abbrev pub refinedPointRefusal : List ℤ → ℕ → ℕ → ℕ → ℕ → ℕ → Bool → ℕ
-refinedPointRefusal net w h k p q short = firstFault (sizeFaults w h k ++ (offGrid w h k p q, 6) ∷ netFaults net w h short)
-
 -- worked cases: document 01's example of 4 and the limit that is accepted; a great k; the lengths that two steps of 2 by 2 need; and the order, of a net whose first number is beyond the range
 depths : (tooDeep 18 2 6 ≡ true) × (tooDeep 17 17 6 ≡ false) × (tooDeep 2 2 7 ≡ true) × (tooDeep 2 2 18446744073709551615 ≡ true) × (tooDeep 2 514 1 ≡ true)
 depths = (refl, refl, refl, refl, refl)
@@ -54,7 +46,4 @@ order :
     × (refineRefusal tooLarge 2 2 0 true ≡ 5)
     × (refineRefusal tooLarge 2 2 0 false ≡ 3)
     × (refineRefusal (replicate 36 (pos 0)) 2 2 0 false ≡ 0)
-    × (refinedPointRefusal [] 2 2 7 9999 0 true ≡ 4)
-    × (refinedPointRefusal [] 2 2 1 2049 0 true ≡ 6)
-    × (refinedPointRefusal [] 2 2 1 2048 0 true ≡ 2)
-order = (refl, refl, refl, refl, refl, refl, refl, refl, refl)
+order = (refl, refl, refl, refl, refl, refl)

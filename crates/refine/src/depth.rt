@@ -2,28 +2,13 @@
 use net::bad_size;
 use net::net_beyond;
 use net::short_net;
+use steps::side_after;
 ghost use mathlib.Core.Path.{_≡_};
 ghost use mathlib.Core.Bool.{false, _||_};
-ghost use Prim.Native.Nat.{_≤_};
 ghost use lib.Dec.{ltb};
 ghost use Rattle.net.specs.TurnedAway.{firstFault, badSize};
-ghost use Rattle.subdivision.specs.Refinement.{sideAfter};
-ghost use Rattle.refine.specs.RefinedNet.{numbersAfter};
+ghost use Rattle.steps.specs.RefinedNet.{numbersAfter};
 ghost use Rattle.refine.specs.TurnedAway.{tooDeep, tooShort, sizeFaults, netFaults};
-
-// A side of n vertices after k steps. For this crate's other modules, which have refused every other side and k.
-pub fn side_after(n: usize, k: usize) -> usize
-    requires { ⌜ (1 ≤ n) × (n ≤ 1025) × (k ≤ 6) ⌝ }
-    ensures { λ r. ⌜ r ≡ sideAfter k n ⌝ }
-{
-    let mut side = n;
-    let mut i = 0;
-    while i < k {
-        side = 2 * side - 1;
-        i += 1;
-    }
-    side
-}
 
 // Whether k is above 6 or a refined side above 1,025: k first, before a side is doubled k times.
 fn too_deep(w: usize, h: usize, k: usize) -> bool

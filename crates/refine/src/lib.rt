@@ -1,15 +1,12 @@
-// Refining a net by k steps, and points of the refined net.
+// Refining a net by k steps.
 mod answers;
 mod depth;
-mod points;
 mod refining;
-mod steps;
-mod vertices;
 
-// The call of document 01, and refining and a surface point in one go: they ask nothing of their caller.
+// The call of document 01: it asks nothing of its caller.
 pub use answers::RefineAnswer;
-pub use points::refined_point;
 pub use refining::refine;
 
-// For the crates above, whose callers lend one output more. It asks nothing either.
-pub use points::refined_point_with;
+// For the crates above, which have refused a size and a k by 1 and 4 before the second.
+pub use depth::net_refusal;
+pub use depth::size_refusal;

@@ -2,10 +2,11 @@
 use crate::answers::RefineAnswer;
 use crate::depth::net_refusal;
 use crate::depth::size_refusal;
-use crate::steps::refine_steps;
+use steps::refine_steps;
 ghost use mathlib.Core.Path.{_≡_};
+ghost use Rattle.steps.specs.Steps.{UnchangedFrom};
 ghost use Rattle.refine.specs.TurnedAway.{tooShort, refineRefusal};
-ghost use Rattle.refine.specs.Answers.{refineTold, refusalOf, refineAnswer, refineOutput, freeScratch, UnchangedFrom};
+ghost use Rattle.refine.specs.Answers.{refineTold, refusalOf, refineAnswer, refineOutput, freeScratch};
 
 // The number of the first fault, 1, 4, 2, 5 or 3, or 0 where there is none.
 fn refusal_of(net: &[i32], w: usize, h: usize, k: usize, room: usize, spare: usize) -> u32

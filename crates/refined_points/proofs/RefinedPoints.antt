@@ -5,63 +5,41 @@ use mathlib.Core.Bool.{Bool, false, _||_}
 use mathlib.Core.List.{List, [], _∷_, _++_}
 use Prim.Native.Nat.{ℕ, zero, suc, _≤_, _<_}
 use native.Mathlib.Omega.{arith}
-use lib.Dec.{ltb, lit<}
+use lib.Dec.{lit<}
 use lib.IntN.{ℤ, natAbs}
 use lib.ListN.{length, take}
-use borrow.Author.Tests.{ltb-false, le-ltb}
+use borrow.Author.Tests.{le-ltb}
 use Rattle.exact.specs.Rounding.{rounded}
 use Rattle.exact.specs.Filling.{over}
 use Rattle.exact.proofs.FillingLaws.{length-over, take-over}
 use Rattle.net.specs.Net.{Index, one, two, three, Vertex, vertexAt, Field, corner, numbers, number, field}
-use Rattle.net.specs.TurnedAway.{badSize, shortNet, beyond, anyBeyond}
+use Rattle.net.specs.TurnedAway.{badSize, beyond, anyBeyond, AcceptedNet}
 use Rattle.net.proofs.Beyond.{cut}
 use Rattle.net.proofs.Faults.{none-clear, or-none, or-no, when-accepted, answered, accepted-answer}
 use Rattle.net.proofs.Ranges.{any-append, any-runs}
-use Rattle.surface.specs.SurfacePoint.{OnGrid, chosen, share, orderOf, valueIn, spline, coordinate, surfacePoint}
+use Rattle.places.specs.Places.{OnGrid, chosen, share, orderOf}
+use Rattle.places.proofs.Cells.{on-grid}
+use Rattle.spline.specs.Spline.{valueIn, spline}
+use Rattle.surface.specs.SurfacePoint.{coordinate, surfacePoint}
 use Rattle.surface.specs.TurnedAway.{pointRefusal}
 use Rattle.surface.specs.Answers.{pointAnswer}
 use Rattle.surface.proofs.Beyond.{cut-point-answer}
-use Rattle.surface.proofs.Cells.{on-grid}
 use Rattle.surface.proofs.SurfacePoints.{accepted-point}
+use Rattle.surface.proofs.Accepted.{corner-in-net, good-sides, point-not-refused}
 use Rattle.subdivision.specs.Refinement.{sideAfter, refinements}
 use Rattle.subdivision.specs.WeightTable.{weights, weights-pass}
-use Rattle.subdivision.specs.Promises.{AcceptedNet}
-use Rattle.subdivision.specs.DemandThree.{refinedCoordinate, NearSpline, WithinControls}
 use Rattle.subdivision.proofs.SameSpline.{side-at-least}
-use Rattle.subdivision.proofs.Distance.{our-nets}
-use Rattle.subdivision.proofs.DemandThree.{demand-three, refined-in-range}
-use Rattle.subdivision.proofs.Accepted.{corner-in-net, good-sides, point-not-refused}
-use Rattle.refine.specs.RefinedNet.{Fields, pointAt, vertexRun, rowRun, stored, refinedNet, numbersAfter, scratchNeed}
-use Rattle.refine.specs.TurnedAway.{tooDeep, tooShort, sizeFaults, netFaults, refineRefusal, offGrid, refinedPointRefusal}
-use Rattle.refine.specs.Answers.{refusalOf, refusalAt, refinedSurfacePoint, refinedPointAnswer}
-use Rattle.refine.specs.Steps.{Depth}
-use Rattle.refine.specs.DemandThree.{Claimed, RefinedPoints}
-use Rattle.refine.proofs.Sides.{good-depth}
-use Rattle.refine.proofs.StoredNets.{stored-field, refined-length}
-
--- ---- where nothing is refused
-
-pub record Taken (net : List ℤ) (w h k room spare : ℕ) : Type 0 where
-  pub depth : Depth w h k
-  pub given : AcceptedNet net w h
-  pub roomy : numbersAfter k w h ≤ room
-  pub enough : scratchNeed k w h ≤ spare
-
-taken-by : (net : List ℤ) (w h k room spare : ℕ) → badSize w h ≡ false → tooDeep w h k ≡ false → shortNet net w h ≡ false →
-    tooShort w h k room spare ≡ false → anyBeyond (take (numbers w h) net) ≡ false → Taken net w h k room spare
-taken-by net w h k room spare e₁ e₄ e₂ e₅ e₃ =
-    let r = or-none (ltb room (numbersAfter k w h)) (ltb spare (scratchNeed k w h)) e₅ in
-    record {
-      depth = good-depth w h k e₁ e₄;
-      given = record { size = e₁; long = e₂; inRange = e₃ };
-      roomy = ltb-false _ _ (r .0);
-      enough = ltb-false _ _ (r .1);
-    }
-
-pub refine-taken : (net : List ℤ) (w h k room spare : ℕ) → refineRefusal net w h k (tooShort w h k room spare) ≡ 0 → Taken net w h k room spare
-refine-taken net w h k room spare e =
-    let c = none-clear (sizeFaults w h k ++ netFaults net w h (tooShort w h k room spare)) (lit< tt, (lit< tt, (lit< tt, (lit< tt, (lit< tt, tt))))) e in
-    taken-by net w h k room spare (c .0) (c .1 .0) (c .1 .1 .0) (c .1 .1 .1 .0) (c .1 .1 .1 .1 .0)
+use Rattle.bounds.specs.DemandThree.{refinedCoordinate, NearSpline, WithinControls}
+use Rattle.bounds.proofs.Distance.{our-nets}
+use Rattle.bounds.proofs.DemandThree.{demand-three, refined-in-range}
+use Rattle.steps.specs.RefinedNet.{Fields, pointAt, vertexRun, rowRun, stored, refinedNet}
+use Rattle.steps.proofs.StoredNets.{stored-field, refined-length}
+use Rattle.refine.specs.TurnedAway.{tooShort, sizeFaults, netFaults}
+use Rattle.refine.specs.Answers.{refusalOf}
+use Rattle.refine.proofs.Taken.{Taken, taken-by, refine-taken}
+use Rattle.refined_points.specs.TurnedAway.{offGrid, refinedPointRefusal}
+use Rattle.refined_points.specs.Answers.{refusalAt, refinedSurfacePoint, refinedPointAnswer}
+use Rattle.refined_points.specs.DemandThree.{Claimed, RefinedPoints}
 
 pub point-taken : (net : List ℤ) (w h k p q : ℕ) (short : Bool) (room spare : ℕ) → refinedPointRefusal net w h k p q (short || tooShort w h k room spare) ≡ 0 →
     Taken net w h k room spare × OnGrid 1024 (sideAfter k w) (sideAfter k h) p q × (short ≡ false)

@@ -6,12 +6,12 @@ use Prim.Native.Nat.{ℕ, _<_}
 use lib.IntN.{ℤ}
 use lib.ListN.{length}
 use Rattle.net.specs.Net.{Triangle, field, number}
-use Rattle.surface.specs.SurfacePoint.{OnGrid, LiesIn}
+use Rattle.places.specs.Places.{OnGrid, LiesIn}
+use Rattle.spline.specs.Shares.{OfNet}
 use Rattle.surface.specs.Answers.{pointAnswer}
 use Rattle.subdivision.specs.Refinement.{sideAfter}
-use Rattle.subdivision.specs.Shares.{OfNet}
-use Rattle.subdivision.specs.DemandThree.{fineEdge, NearSpline, WithinControls}
+use Rattle.bounds.specs.DemandThree.{fineEdge, NearSpline, WithinControls}
 use Rattle.refine.specs.Answers.{refusalOf, refineOutput}
 
 -- what is claimed of an answer at place (p, q) of the k times refined net: it is a point, x, y, z, and no refusal; and each coordinate is within (k + 1)/2
 -- units of the exact spline of the starting net at that place, edge count 1024·2^k, and within the least and the greatest of the nine control values of each

@@ -1,18 +1,21 @@
 // Refining and then a surface point, in one go: demand 3, held to by the code itself.
-use crate::depth::net_refusal;
-use crate::depth::side_after;
-use crate::depth::size_refusal;
-use crate::steps::refine_steps;
+use refine::net_refusal;
+use refine::size_refusal;
+use steps::refine_steps;
+use steps::side_after;
 use surface::PointAnswer;
 use surface::surface_point;
 ghost use mathlib.Core.Path.{_≡_};
 ghost use mathlib.Core.Bool.{false, _||_};
 ghost use Rattle.net.specs.TurnedAway.{badSize, outputAfter};
 ghost use Rattle.surface.specs.Answers.{pointTold};
-ghost use Rattle.refine.specs.RefinedNet.{refinedNet};
-ghost use Rattle.refine.specs.TurnedAway.{tooDeep, tooShort, offGrid, refinedPointRefusal};
-ghost use Rattle.refine.specs.Answers.{freeScratch, UnchangedFrom, refusalAt, refinedPointAnswer};
-ghost use Rattle.refine.specs.DemandThree.{Claimed};
+ghost use Rattle.steps.specs.RefinedNet.{refinedNet};
+ghost use Rattle.steps.specs.Steps.{UnchangedFrom};
+ghost use Rattle.refine.specs.TurnedAway.{tooDeep, tooShort};
+ghost use Rattle.refine.specs.Answers.{freeScratch};
+ghost use Rattle.refined_points.specs.TurnedAway.{offGrid, refinedPointRefusal};
+ghost use Rattle.refined_points.specs.Answers.{refusalAt, refinedPointAnswer};
+ghost use Rattle.refined_points.specs.DemandThree.{Claimed};
 
 // Whether place (p, q) is off the refined grid.
 fn off_grid(w: usize, h: usize, k: usize, p: usize, q: usize) -> bool

@@ -4,23 +4,24 @@ use mathlib.Core.Path.{_≡_, refl, sym, ap, _∙_}
 use mathlib.Core.Bool.{Bool, true, false, cond}
 use mathlib.Core.List.{List, [], _∷_}
 use mathlib.Core.Logic.{inl, inr}
-use Prim.Native.Nat.{ℕ, _+_, _-_, _*_, _/_, _≤_, _<_}
+use Prim.Native.Nat.{ℕ, _+_, _-_, _/_, _≤_, _<_}
 use native.Mathlib.Nat.{le-refl, mul-le-mul, mul-add, min-le-right}
 use native.Mathlib.Omega.{arith}
 use lib.IntN.{ℤ, pos, _+ℤ_, _-ℤ_, _*ℤ_, +ℤ-idr, zero-*ℤ}
 use Rattle.exact.specs.WeightedSum.{weightedSum}
 use Rattle.exact.proofs.Expressions.{Expr, var, lit, _⊕_, _⊖_, _⊗_, identity}
 use Rattle.net.specs.Net.{Index, one, two, three, next, vertexAt, Triangle, triangleAt, Field}
-use Rattle.surface.specs.BezierNet.{Controls, controlsOf, controlList, indexK}
-use Rattle.surface.specs.SurfacePoint.{o123, OnGrid, rest, isDown, upShare, downShare, chosen, share, orderOf, spline}
-use Rattle.surface.proofs.CornerForm.{inForm, summed}
-use Rattle.surface.proofs.Orders.{Sorted, in-order}
-use Rattle.surface.proofs.Cells.{chosen-lies}
-use Rattle.subdivision.specs.Shares.{OfNet, sharesBy, sharesIn, vertexShare, square, controlWeights}
-use Rattle.subdivision.specs.Promises.{AnyTriangle, SplineByWeights, WeightsTotal}
-use Rattle.subdivision.proofs.ControlWeights.{nine, squareE, byShares, bySharesE, other-way, by-shares, shares-total, value-by-weights}
-use Rattle.subdivision.proofs.GridSums.{gridSum, sum-cell}
-use Rattle.subdivision.proofs.Located.{Located, located, in-cell, corner-share, fourth-share, no-share}
+use Rattle.places.specs.Places.{o123, OnGrid, rest, isDown, upShare, downShare, chosen, share, orderOf}
+use Rattle.places.proofs.Orders.{Sorted, in-order}
+use Rattle.places.proofs.Cells.{chosen-lies}
+use Rattle.triangles.specs.BezierPoints.{Controls, controlsOf, controlList, indexK}
+use Rattle.triangles.proofs.CornerForm.{inForm, summed}
+use Rattle.spline.specs.Spline.{spline}
+use Rattle.spline.specs.Shares.{OfNet, sharesBy, sharesIn, vertexShare, square, controlWeights}
+use Rattle.spline.specs.Promises.{AnyTriangle, SplineByWeights, WeightsTotal}
+use Rattle.spline.proofs.ControlWeights.{nine, squareE, byShares, bySharesE, other-way, by-shares, shares-total, value-by-weights}
+use Rattle.spline.proofs.GridSums.{gridSum, sum-cell}
+use Rattle.spline.proofs.Located.{Located, located, in-cell, corner-share, fourth-share, no-share}
 
 -- ---- the terms of vertices and edges
 

@@ -14,15 +14,16 @@ use Rattle.exact.proofs.Parts.{integers}
 use Rattle.exact.proofs.Linear.{expression-parts}
 use Rattle.exact.proofs.Expressions.{Expr, var, lit, _⊕_, _⊖_, _⊗_, value, identity, identities}
 use Rattle.exact.proofs.WeightedSumLaws.{NotNegative}
-use Rattle.net.specs.Net.{Index, one, two, three, rank, next, previous}
-use Rattle.surface.specs.BezierNet.{Controls, controlList, indexK, indexM}
-use Rattle.surface.specs.SurfacePoint.{Order, o123, o132, o213, o231, o312, o321, cornerP, cornerQ, cornerT, gapA, gapB, gapG, valueIn}
-use Rattle.surface.specs.Evaluation.{aheadOf, parts, partRows}
-use Rattle.surface.proofs.CornerForm.{inForm, summed}
-use Rattle.surface.proofs.Evaluation.{parts-value}
-use Rattle.subdivision.specs.Refinement.{same}
-use Rattle.subdivision.specs.Shares.{square, weightK, weightN, weightM, weightOf, controlWeights, Descending}
-use Rattle.subdivision.specs.Promises.{WeightNotNegative, NoShareNoWeight}
+use Rattle.net.specs.Net.{Index, one, two, three, rank, next, previous, same}
+use Rattle.places.specs.Places.{Order, o123, o132, o213, o231, o312, o321, cornerP, cornerQ, cornerT, gapA, gapB, gapG}
+use Rattle.places.specs.Located.{aheadOf}
+use Rattle.triangles.specs.BezierPoints.{Controls, controlList, indexK, indexM}
+use Rattle.triangles.proofs.CornerForm.{inForm, summed}
+use Rattle.spline.specs.Spline.{valueIn}
+use Rattle.spline.specs.Parts.{parts, partRows}
+use Rattle.spline.specs.Shares.{square, weightK, weightN, weightM, weightOf, controlWeights, Descending}
+use Rattle.spline.specs.Promises.{WeightNotNegative, NoShareNoWeight}
+use Rattle.spline.proofs.Parts.{parts-value}
 
 -- ---- a sum over the corners in any order is the sum by corner
 

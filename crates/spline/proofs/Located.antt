@@ -7,9 +7,9 @@ use native.Mathlib.Nat.{mul-le-mul, le-refl}
 use native.Mathlib.Decide.{decLe}
 use native.Mathlib.Omega.{arith}
 use Rattle.net.specs.Net.{Index, one, two, three, Vertex, vertexAt, Triangle, triangleAt, corner}
-use Rattle.surface.specs.SurfacePoint.{LiesIn, LiesBy}
-use Rattle.subdivision.specs.Shares.{sharesIn, apart, vertexShare}
-use Rattle.subdivision.proofs.GridSums.{Away}
+use Rattle.places.specs.Places.{LiesIn, LiesBy}
+use Rattle.spline.specs.Shares.{sharesIn, apart, vertexShare}
+use Rattle.spline.proofs.GridSums.{Away}
 
 -- how far a place is from the column and the row of its cell, by its shares in the up or the down triangle
 abbrev pub acrossBy : Bool → (Index → ℕ) → ℕ

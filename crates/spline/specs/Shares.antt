@@ -5,10 +5,9 @@ use mathlib.Core.Bool.{Bool, true, false, cond}
 use mathlib.Core.List.{List, [], _∷_, map}
 use Prim.Native.Nat.{ℕ, _+_, _-_, _*_, _≤_, max}
 use lib.IntN.{ℤ, pos, _-ℤ_, _*ℤ_}
-use Rattle.net.specs.Net.{Index, one, next, previous, Vertex, vertexAt, Triangle, triangleAt}
-use Rattle.surface.specs.BezierNet.{indexK, indexM, controlList}
-use Rattle.surface.specs.SurfacePoint.{Order, cornerP, cornerQ, cornerT, upShare, downShare}
-use Rattle.subdivision.specs.Refinement.{same}
+use Rattle.net.specs.Net.{Index, one, next, previous, Vertex, vertexAt, Triangle, triangleAt, same}
+use Rattle.places.specs.Places.{Order, cornerP, cornerQ, cornerT, upShare, downShare}
+use Rattle.triangles.specs.BezierPoints.{indexK, indexM, controlList}
 
 -- 'Cell (i, j), with i at most w-2 and j at most h-2': a triangle of a net of width w and height h, both at least 2
 abbrev pub OfNet : ℕ → ℕ → Triangle → Type 0

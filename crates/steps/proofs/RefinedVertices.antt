@@ -14,8 +14,8 @@ use Rattle.net.specs.Net.{Index, one, two, three, Vertex, vertexAt, start, entr
 use Rattle.subdivision.specs.Refinement.{kept, kindOf, beginOf, endOf, isOdd, kindBy, beginBy, endBy}
 use Rattle.subdivision.specs.WeightTable.{kindNumber, weights, exactBy, refinedBy, refinedNumber, refinedTriangle}
 use Rattle.subdivision.proofs.Tables.{our-rule, our-refinement}
-use Rattle.refine.specs.RefinedNet.{pointAt, triangleOf, vertexRun, refinedFields, refinedControls}
-use Rattle.refine.specs.Steps.{threePoints}
+use Rattle.steps.specs.RefinedNet.{pointAt, triangleOf, vertexRun, refinedFields, refinedControls}
+use Rattle.steps.specs.Steps.{threePoints}
 
 -- a vertex that is stored no later than another ends where that one does, or before
 pub ends-before : (net : List ℤ) (w i j m n : ℕ) → m ≤ i → n ≤ j → start w (vertexAt i j) + 9 ≤ length net → start w (vertexAt m n) + 9 ≤ length net

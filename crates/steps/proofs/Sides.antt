@@ -1,17 +1,11 @@
--- Sides after k steps: how they grow, and what is known where 1 and 4 do not refuse.
-use mathlib.Core.Path.{_≡_, sym, ap, subst}
-use mathlib.Core.Bool.{false, _||_}
+-- Sides after k steps: how they grow.
+use mathlib.Core.Path.{_≡_, ap, subst}
 use Prim.Native.Nat.{ℕ, zero, suc, _-_, _*_, _^_, _≤_}
 use native.Mathlib.Nat.{le-refl, le-trans, mul-le-mul, pow-suc, pow-le-pow-right}
 use native.Mathlib.Omega.{arith}
-use lib.Dec.{ltb, lit<}
-use borrow.Author.Tests.{ltb-false, le-ltb}
-use Rattle.net.specs.TurnedAway.{badSize}
-use Rattle.net.proofs.Faults.{or-none, or-no}
-use Rattle.net.proofs.Places.{good-size}
+use lib.Dec.{lit<}
 use Rattle.subdivision.specs.Refinement.{refinedSide, sideAfter}
-use Rattle.refine.specs.TurnedAway.{tooDeep}
-use Rattle.refine.specs.Steps.{Depth}
+use Rattle.steps.specs.Steps.{Depth}
 
 -- a side at most doubles at each step
 side-doubles : (k n : ℕ) → sideAfter k n ≤ n * 2 ^ k
@@ -43,19 +37,6 @@ side-last (suc k) n a =
 abbrev pub SideReady : ℕ → ℕ → Type 0
 SideReady n k = (1 ≤ n) × (n ≤ 1025) × (k ≤ 6)
 
-pub good-depth : (w h k : ℕ) → badSize w h ≡ false → tooDeep w h k ≡ false → Depth w h k
-good-depth w h k e f =
-    let size = good-size w h e in
-    let g = or-none (ltb 6 k) (ltb 1025 (sideAfter k w) || ltb 1025 (sideAfter k h)) f in
-    let sides = or-none (ltb 1025 (sideAfter k w)) (ltb 1025 (sideAfter k h)) (g .1) in
-    record {
-      few = ltb-false 6 k (g .0);
-      wide = size .wide;
-      narrow = ltb-false 1025 (sideAfter k w) (sides .0);
-      high = size .high;
-      low = ltb-false 1025 (sideAfter k h) (sides .1);
-    }
-
 pub wide-ready : {w h k : ℕ} → Depth w h k → SideReady w k
 wide-ready {w} {h} {k} g =
     let more : 1 ≤ w = omega (arith, g .wide) in
@@ -76,11 +57,6 @@ shallower {w} {h} {k} g =
       high = g .high;
       low = le-trans (side-before k h (high-ready g .0)) (g .low);
     }
-
-pub not-deep : {w h k : ℕ} → Depth w h k → tooDeep w h k ≡ false
-not-deep {w} {h} {k} g =
-    sym (or-no (ltb 6 k) _ (le-ltb 6 k (g .few))
-    (or-no (ltb 1025 (sideAfter k w)) (ltb 1025 (sideAfter k h)) (le-ltb 1025 (sideAfter k w) (g .narrow)) (sym (le-ltb 1025 (sideAfter k h) (g .low)))))
 
 -- the numbers of the net after k steps are few
 pub few-after : {w h k : ℕ} → Depth w h k → sideAfter k w * sideAfter k h ≤ 1050625

@@ -16,11 +16,10 @@ use Rattle.net.specs.Net.{numbers}
 use Rattle.net.proofs.Faults.{cond-false}
 use Rattle.subdivision.specs.Refinement.{sideAfter}
 use Rattle.subdivision.proofs.SameSpline.{side-at-least}
-use Rattle.refine.specs.RefinedNet.{refinedNet, numbersAfter, scratchNeed}
-use Rattle.refine.specs.Answers.{UnchangedFrom}
-use Rattle.refine.specs.Steps.{Depth, StepReady}
-use Rattle.refine.proofs.Sides.{side-before, side-last, wide-ready, high-ready, shallower}
-use Rattle.refine.proofs.StoredNets.{refined-length, no-step, step-more}
+use Rattle.steps.specs.RefinedNet.{refinedNet, numbersAfter, scratchNeed}
+use Rattle.steps.specs.Steps.{UnchangedFrom, Depth, StepReady}
+use Rattle.steps.proofs.Sides.{side-before, side-last, wide-ready, high-ready, shallower}
+use Rattle.steps.proofs.StoredNets.{refined-length, no-step, step-more}
 
 -- ---- sizes
 

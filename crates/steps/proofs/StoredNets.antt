@@ -17,7 +17,7 @@ use Rattle.exact.proofs.FillingLaws.{length-runs, getD-runs, runs-same, runs-of
 use Rattle.net.specs.Net.{Index, one, two, three, rank, Vertex, vertexAt, Field, numbers, start, vertexNumbers, number, field}
 use Rattle.net.proofs.Places.{vertex-ends, field-number, nine-numbers}
 use Rattle.subdivision.specs.Refinement.{refinedSide, sideAfter, isOdd, kindBy, along, beginBy, endBy, ruleBy, keptControl, exactRefinement, refinement, refinements}
-use Rattle.refine.specs.RefinedNet.{Fields, pointAt, vertexRun, rowRun, stored, refinedFields, refinedNet}
+use Rattle.steps.specs.RefinedNet.{Fields, pointAt, vertexRun, rowRun, stored, refinedFields, refinedNet}
 
 -- ---- the numbers of a stored net
 

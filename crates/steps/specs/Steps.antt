@@ -2,13 +2,21 @@
 use mathlib.Core.Path.{_≡_, refl}
 use mathlib.Core.List.{List, [], _∷_}
 use Prim.Native.Nat.{ℕ, _+_, _≤_}
-use lib.Dec.{lit≤}
 use lib.IntN.{ℤ, pos}
-use lib.ListN.{length, getD, replicate}
+use lib.ListN.{length, drop, getD, replicate}
+use lib.Dec.{lit≤}
 use lib.Seq.{sets}
 use Rattle.net.specs.Net.{numbers}
 use Rattle.subdivision.specs.Refinement.{sideAfter}
-use Rattle.refine.specs.RefinedNet.{numbersAfter}
+use Rattle.steps.specs.RefinedNet.{numbersAfter}
+
+-- 'the rest unchanged': a slice that has changed in its first n numbers alone
+abbrev pub UnchangedFrom : ℕ → List ℤ → List ℤ → Type 0
+UnchangedFrom n before after = (length after ≡ length before) × (drop n after ≡ drop n before)
+
+-- worked case: of five numbers the first two have changed
+unchanged-from : UnchangedFrom 2 (pos 1 ∷ pos 2 ∷ pos 3 ∷ pos 4 ∷ pos 5 ∷ []) (pos 9 ∷ pos 9 ∷ pos 3 ∷ pos 4 ∷ pos 5 ∷ [])
+unchanged-from = (refl, refl)
 
 -- a size and a number of steps that 1 and 4 do not refuse
 pub record Depth (w h k : ℕ) : Type 0 where

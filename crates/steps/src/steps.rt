@@ -1,6 +1,6 @@
 // One refinement of a lent net, and k of them to and fro between two lent slices. For `refine` and `refined_point`, which have refused all that `refine_steps` does not take; what the
 // others ask is met in this file.
-use crate::depth::side_after;
+use crate::sizes::side_after;
 use crate::vertices::refined_vertex;
 use crate::vertices::store_triangle;
 use exact::copy_over;
@@ -11,9 +11,8 @@ ghost use lib.Seq.{sets};
 ghost use Rattle.exact.specs.Filling.{over};
 ghost use Rattle.net.specs.Net.{numbers};
 ghost use Rattle.subdivision.specs.Refinement.{refinedSide, sideAfter};
-ghost use Rattle.refine.specs.RefinedNet.{refinedFields, rowRun, refinedNet, numbersAfter, scratchNeed};
-ghost use Rattle.refine.specs.Answers.{UnchangedFrom};
-ghost use Rattle.refine.specs.Steps.{Depth, StepReady};
+ghost use Rattle.steps.specs.RefinedNet.{refinedFields, rowRun, refinedNet, numbersAfter, scratchNeed};
+ghost use Rattle.steps.specs.Steps.{UnchangedFrom, Depth, StepReady};
 
 // Row j of the refined grid.
 fn refine_row(net: &[i32], w: usize, h: usize, j: usize, out: &mut [i32])

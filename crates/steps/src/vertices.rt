@@ -1,15 +1,15 @@
 // The refined control triangle at one vertex of the refined grid, and its storage. For one step's loop in `steps.rt`, which is seen to meet what these ask.
 use net::load;
 use net::store_point;
-use subdivision::refined_triangle;
+use rule::refined_triangle;
 use subdivision::weight_table;
 ghost use mathlib.Core.Path.{_≡_};
 ghost use Prim.Native.Nat.{_+_, _≤_, _<_, _/_};
 ghost use lib.ListN.{length};
 ghost use Rattle.net.specs.Net.{vertexAt, start, controlTriangle};
 ghost use Rattle.subdivision.specs.WeightTable.{weights, refinedTriangle};
-ghost use Rattle.refine.specs.RefinedNet.{refinedControls};
-ghost use Rattle.refine.specs.Steps.{threePoints};
+ghost use Rattle.steps.specs.RefinedNet.{refinedControls};
+ghost use Rattle.steps.specs.Steps.{threePoints};
 
 // The rule of a kind of vertices on the control triangles of vertices (i, j) and (m, n). Its callers write the kind as a literal, so that the table's rows fold
 // into the sums.

@@ -1,13 +1,5 @@
--- The laws of refinement: weights and places, the spline, distance, range, and demand 3.
+-- The laws of refinement: the weight table, where refined vertices come from, and that exact refinement keeps the spline.
 pub mod Tables
-pub mod ControlWeights
-pub mod GridSums
-pub mod Located
-pub mod AnyTriangle
 pub mod Children
 pub mod Means
 pub mod SameSpline
-pub mod Distance
-pub mod Range
-pub mod DemandThree
-pub mod Accepted

@@ -10,9 +10,9 @@ use lib.ListN.{getD}
 use lib.Seq.{getD-drop}
 use Rattle.exact.specs.WeightedSum.{weightedSum}
 use Rattle.exact.proofs.WeightedSumLaws.{sum-same}
-use Rattle.net.specs.Net.{Index, Vertex, vertexAt, Triangle, corner, Field}
-use Rattle.surface.specs.BezierNet.{indexK, isNext}
-use Rattle.subdivision.specs.Refinement.{kept, along, same}
+use Rattle.net.specs.Net.{Index, Vertex, vertexAt, Triangle, corner, Field, isNext, same}
+use Rattle.triangles.specs.BezierPoints.{indexK}
+use Rattle.subdivision.specs.Refinement.{kept, along}
 use Rattle.subdivision.specs.WeightTable.{Table, kindNumber, weightsAt, passes, six, exactBy}
 use Rattle.subdivision.proofs.Tables.{kept-row}
 use Rattle.subdivision.proofs.Children.{Child, child, source, kindBetween, beginBetween, endBetween, child-corner}

@@ -9,19 +9,20 @@ use lib.IntN.{ℤ, pos, _*ℤ_}
 use Rattle.exact.specs.WeightedSum.{weightedSum}
 use Rattle.exact.proofs.Integers.{one-times}
 use Rattle.exact.proofs.Expressions.{Expr, var, lit, _⊕_, _⊗_, value, identity}
-use Rattle.net.specs.Net.{Index, one, two, three, Triangle, triangleAt, corner, Field}
-use Rattle.surface.specs.BezierNet.{Controls, controlsOf, controlList}
-use Rattle.surface.specs.SurfacePoint.{o123, OnGrid, chosen, spline}
-use Rattle.surface.proofs.CornerForm.{inForm, summed}
-use Rattle.surface.proofs.Cells.{chosen-lies}
-use Rattle.subdivision.specs.Refinement.{ruleBy, exactRefinement, exactRefinements, same, refinedSide, sideAfter}
+use Rattle.net.specs.Net.{Index, one, two, three, Triangle, triangleAt, corner, Field, same}
+use Rattle.places.specs.Places.{o123, OnGrid, chosen}
+use Rattle.places.proofs.Cells.{chosen-lies}
+use Rattle.triangles.specs.BezierPoints.{Controls, controlsOf, controlList}
+use Rattle.triangles.proofs.CornerForm.{inForm, summed}
+use Rattle.spline.specs.Spline.{spline}
+use Rattle.spline.specs.Shares.{OfNet, sharesIn, square, controlWeights}
+use Rattle.spline.proofs.ControlWeights.{nine, squareE, byShares, bySharesE, by-shares}
+use Rattle.spline.proofs.Located.{Located, located}
+use Rattle.spline.proofs.AnyTriangle.{environment, chosen-of-net, spline-by-shares}
+use Rattle.subdivision.specs.Refinement.{ruleBy, exactRefinement, exactRefinements, refinedSide, sideAfter}
 use Rattle.subdivision.specs.WeightTable.{weights, weights-pass}
-use Rattle.subdivision.specs.Shares.{OfNet, sharesIn, square, controlWeights}
 use Rattle.subdivision.specs.Promises.{SameSpline, SameSplines}
 use Rattle.subdivision.proofs.Tables.{ruleE, our-rule, our-table}
-use Rattle.subdivision.proofs.ControlWeights.{nine, squareE, byShares, bySharesE, by-shares}
-use Rattle.subdivision.proofs.Located.{Located, located}
-use Rattle.subdivision.proofs.AnyTriangle.{environment, chosen-of-net, spline-by-shares}
 use Rattle.subdivision.proofs.Means.{child-mean}
 use Rattle.subdivision.proofs.Children.{Child, at, middle, childDown, child, child-of-net, source, kindBetween, beginBetween, endBetween, sharesFrom, in-child}
 

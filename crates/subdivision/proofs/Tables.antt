@@ -14,11 +14,10 @@ use Rattle.exact.proofs.Parts.{integers}
 use Rattle.exact.proofs.Expressions.{Expr, var, lit, _⊕_, _⊗_, identity}
 use Rattle.exact.proofs.WeightedSumLaws.{NotNegative, sumFrom}
 use Rattle.exact.proofs.RoundingLaws.{rounded-scale}
-use Rattle.net.specs.Net.{Index, one, two, three, next, previous, rank, Vertex, entry, field, controlTriangle}
-use Rattle.surface.proofs.SurfacePoints.{below-three}
-use Rattle.subdivision.specs.Refinement.{Kind, kept, along, kindOf, beginOf, endOf, same, ruleBy, exactRefinement, refinement}
-use Rattle.subdivision.specs.WeightTable.{Table, kindNumber, weightsAt, sum, every, goodRow, goodKeptRow, goodKind, passes}
-use Rattle.subdivision.specs.WeightTable.{six, exactBy, refinedBy, refinedNumber, refinedPoint, refinedTriangle, weights}
+use Rattle.net.specs.Net.{Index, one, two, three, next, previous, rank, Vertex, entry, field, controlTriangle, same}
+use Rattle.net.proofs.Places.{below-three}
+use Rattle.subdivision.specs.Refinement.{Kind, kept, along, kindOf, beginOf, endOf, ruleBy, exactRefinement, refinement}
+use Rattle.subdivision.specs.WeightTable.{Table, kindNumber, weightsAt, sum, every, goodRow, goodKeptRow, goodKind, passes, six, exactBy, refinedBy, refinedNumber, refinedPoint, refinedTriangle, weights}
 use Rattle.subdivision.specs.Promises.{Quotients, OurTable, OurRefinement}
 
 -- ---- from the test of a table to its rows

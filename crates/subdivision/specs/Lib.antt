@@ -1,6 +1,4 @@
--- One refinement, its weight table, shares and weights of a place, and demand 3 of the definitions.
+-- The definitions of one refinement and of its weight table, and the statements about them.
 pub mod Refinement
 pub mod WeightTable
-pub mod Shares
 pub mod Promises
-pub mod DemandThree

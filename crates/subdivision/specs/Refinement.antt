@@ -5,7 +5,7 @@ use Prim.Native.Nat.{ℕ, zero, suc, _+_, _-_, _*_, _/_}
 use lib.Dec.{ltb}
 use lib.IntN.{ℤ, pos, _+ℤ_, _*ℤ_}
 use Rattle.exact.specs.Rounding.{rounded, floorQuotient}
-use Rattle.net.specs.Net.{Index, one, two, three, next, previous, Vertex, vertexAt, Field}
+use Rattle.net.specs.Net.{Index, one, two, three, next, previous, Vertex, vertexAt, Field, same}
 
 -- 'New size (2w-1) by (2h-1)': a side after one refinement, and after k
 abbrev pub refinedSide : ℕ → ℕ
@@ -53,18 +53,6 @@ beginOf v = beginBy (kindOf v) (v .column / 2) (v .row / 2)
 
 abbrev pub endOf : Vertex → Vertex
 endOf v = endBy (kindOf v) (v .column / 2) (v .row / 2)
-
--- whether two indices are the same
-abbrev pub same : Index → Index → Bool
-same one one = true
-same two two = true
-same three three = true
-same one two = false
-same one three = false
-same two one = false
-same two three = false
-same three one = false
-same three two = false
 
 -- 12 times ck' of a kept vertex: ck' = (4ck + the other two)/6
 abbrev pub keptControl : (Index → ℤ) → Index → ℤ

@@ -1,7 +1,5 @@
-// One refinement at a vertex, by a weight table.
-mod rule;
+// One refinement: its weight table in code. What it is stands in specs/, and that it keeps the spline in proofs/.
 mod table;
 
-pub use rule::refined_triangle;
 pub use table::WEIGHTS;
 pub use table::weight_table;

@@ -9,14 +9,15 @@ use lib.IntN.{ℤ}
 use lib.ListN.{take, drop}
 use borrow.Author.Tests.{le-ltb}
 use Rattle.net.specs.Net.{Index, one, two, three, cornerOf, corner, numbers, start, vertexNumbers}
-use Rattle.net.specs.TurnedAway.{badSide, badSize, anyBeyond}
+use Rattle.net.specs.TurnedAway.{badSide, badSize, anyBeyond, AcceptedNet}
 use Rattle.net.proofs.Faults.{or-none, or-no, cond-false}
 use Rattle.net.proofs.Places.{vertex-ends}
 use Rattle.net.proofs.Ranges.{any-front}
-use Rattle.surface.specs.SurfacePoint.{OnGrid, chosen}
-use Rattle.surface.specs.TurnedAway.{noPlace, triangleBeyond, pointRefusal}
-use Rattle.surface.proofs.Cells.{cells-in-grid}
-use Rattle.subdivision.specs.Promises.{AcceptedNet}
+use Rattle.places.specs.Places.{OnGrid, chosen}
+use Rattle.places.specs.TurnedAway.{noPlace}
+use Rattle.places.proofs.Cells.{cells-in-grid}
+use Rattle.triangles.specs.TurnedAway.{triangleBeyond}
+use Rattle.surface.specs.TurnedAway.{pointRefusal}
 
 -- ---- the corners of a place's triangle are vertices of the net
 

@@ -1,8 +1,7 @@
--- The evaluation by parts gives document 01's exact value: nine control values, each times its factor in the point, add up to it. And the bounds
--- that keep the point an i32.
+-- The evaluation by parts: the bounds that keep the point an i32, and what the code reads.
 use mathlib.Core.Path.{_≡_, refl, ap, sym, _∙_}
 use mathlib.Core.Bool.{Bool, true, false, _&&_}
-use mathlib.Core.List.{List, [], _∷_, _++_, map}
+use mathlib.Core.List.{List, [], _∷_, map}
 use Prim.Native.Nat.{ℕ, _+_, _*_, _≤_, _<_, _^_}
 use native.Mathlib.Nat.{mul-le-mul}
 use native.Mathlib.Omega.{arith}
@@ -15,15 +14,12 @@ use mir.Syntax.{w64}
 use mir.Val.{toZ, ofZ}
 use Rattle.exact.specs.Rounding.{rounded}
 use Rattle.exact.specs.WeightedSum.{weightedSum, Summed, Within}
-use Rattle.exact.proofs.Expressions.{Expr, var, lit, _⊕_, _⊗_, identity}
+use Rattle.exact.proofs.Expressions.{var, lit, _⊕_, _⊗_, identity}
 use Rattle.exact.proofs.SignedCode.{reads-as}
 use Rattle.exact.proofs.WeightedSumLaws.{weightedSum-sym, sum-size, sizes, sum-sizes, sumFrom, sum-expression}
 use Rattle.exact.proofs.RoundingLaws.{rounded-size}
-use Rattle.net.specs.Net.{Index, rank}
-use Rattle.surface.specs.BezierNet.{Controls, controlList}
-use Rattle.surface.specs.SurfacePoint.{Order, o123, o132, o213, o231, o312, o321, cornerP, cornerQ, quadratic}
-use Rattle.surface.specs.Evaluation.{aheadOf, coefficients, partRows, parts}
-use Rattle.surface.proofs.CornerForm.{inForm, summed, s, u, v, r, m, z}
+use Rattle.triangles.proofs.CornerForm.{s, z}
+use Rattle.spline.specs.Parts.{coefficients, partRows, parts}
 
 -- ---- the parts are small
 
@@ -87,32 +83,3 @@ part z g s = reads-as w64 z g (s .sum)
 
 pub none : (k : List ℤ) → length k ≡ 6 → pos 0 ≡ weightedSum (pos 0 ∷ pos 0 ∷ pos 0 ∷ pos 0 ∷ pos 0 ∷ pos 0 ∷ []) k
 none k e = sym (sum-expression (pos 0 ∷ pos 0 ∷ pos 0 ∷ pos 0 ∷ pos 0 ∷ pos 0 ∷ []) k 0 (omega (arith, e)) ∙ identity (sumFrom (pos 0 ∷ pos 0 ∷ pos 0 ∷ pos 0 ∷ pos 0 ∷ pos 0 ∷ []) 0) (lit (pos 0)) k refl)
-
--- ---- their weighted sum is the exact value
-
--- variables 0 to 5 are the squares, 6 to 14 the control values by corner and then c1 to c3
-abbrev c : Index → Index → Expr
-c P k = var (6 + (3 * rank P + rank k))
-
-abbrev byParts : Bool → Order → Expr
-byParts down o = summed (map (λ (row : List ℤ). sumFrom row 0) (partRows (aheadOf o))) (inForm down c o)
-
-abbrev byPoints : Bool → Index → Index → Expr
-byPoints down P Q =
-    var 0 ⊗ s c P ⊕ var 1 ⊗ u c down P Q ⊕ var 2 ⊗ v c down P ⊕ var 3 ⊗ r c down P Q ⊕ var 4 ⊗ m c down P Q ⊕ var 5 ⊗ z c down
-
-pub parts-value : (down : Bool) (e : Controls) (o : Order) (A B G : ℕ) →
-    weightedSum (parts (aheadOf o) A B G) (inForm down e o) ≡ quadratic down e (cornerP o) (cornerQ o) A B G
-unfolding weightedSum
-parts-value false e o123 A B G = identity (byParts false o123) (byPoints false (cornerP o123) (cornerQ o123)) (coefficients A B G ++ controlList e) refl
-parts-value false e o132 A B G = identity (byParts false o132) (byPoints false (cornerP o132) (cornerQ o132)) (coefficients A B G ++ controlList e) refl
-parts-value false e o213 A B G = identity (byParts false o213) (byPoints false (cornerP o213) (cornerQ o213)) (coefficients A B G ++ controlList e) refl
-parts-value false e o231 A B G = identity (byParts false o231) (byPoints false (cornerP o231) (cornerQ o231)) (coefficients A B G ++ controlList e) refl
-parts-value false e o312 A B G = identity (byParts false o312) (byPoints false (cornerP o312) (cornerQ o312)) (coefficients A B G ++ controlList e) refl
-parts-value false e o321 A B G = identity (byParts false o321) (byPoints false (cornerP o321) (cornerQ o321)) (coefficients A B G ++ controlList e) refl
-parts-value true e o123 A B G = identity (byParts true o123) (byPoints true (cornerP o123) (cornerQ o123)) (coefficients A B G ++ controlList e) refl
-parts-value true e o132 A B G = identity (byParts true o132) (byPoints true (cornerP o132) (cornerQ o132)) (coefficients A B G ++ controlList e) refl
-parts-value true e o213 A B G = identity (byParts true o213) (byPoints true (cornerP o213) (cornerQ o213)) (coefficients A B G ++ controlList e) refl
-parts-value true e o231 A B G = identity (byParts true o231) (byPoints true (cornerP o231) (cornerQ o231)) (coefficients A B G ++ controlList e) refl
-parts-value true e o312 A B G = identity (byParts true o312) (byPoints true (cornerP o312) (cornerQ o312)) (coefficients A B G ++ controlList e) refl
-parts-value true e o321 A B G = identity (byParts true o321) (byPoints true (cornerP o321) (cornerQ o321)) (coefficients A B G ++ controlList e) refl

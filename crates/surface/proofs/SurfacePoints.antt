@@ -1,6 +1,6 @@
 -- Surface points: from what the code found to the definition, what the evaluation asks, and the answers.
 use mathlib.Core.Path.{_≡_, refl, sym, ap, subst, _∙_}
-use mathlib.Core.Bool.{Bool, true, false, cond}
+use mathlib.Core.Bool.{false, Bool, true, cond}
 use mathlib.Core.List.{List, [], _∷_, map}
 use Prim.Native.Nat.{ℕ, _+_, _-_, _*_, _≤_, _<_}
 use native.Mathlib.Omega.{arith}
@@ -9,19 +9,30 @@ use lib.IntN.{ℤ}
 use borrow.Author.Tests.{ltb-true, ltb-false}
 use Rattle.exact.specs.Rounding.{rounded}
 use Rattle.exact.specs.WeightedSum.{weightedSum, Within}
-use Rattle.net.specs.Net.{Index, one, two, three, rank, field}
 use Rattle.net.specs.TurnedAway.{badSize, shortNet, accepted}
+use Rattle.net.specs.Net.{Index, one, two, three, field}
 use Rattle.net.proofs.Faults.{when-accepted, when-refused, cond-false, fault-none, fault-before}
-use Rattle.surface.specs.BezierNet.{controlsOf}
-use Rattle.surface.specs.SurfacePoint.{Order, o123, o132, o213, o231, o312, o321, cornerP, cornerQ, cornerT, orderOf, chosen, share, gapA, gapB, gapG, spline, coordinate, surfacePoint, isDown, rest, upShare, downShare}
-use Rattle.surface.specs.TurnedAway.{noPlace, triangleBeyond, pointRefusal}
+use Rattle.places.specs.Places.{cell, Order, o123, o132, o213, o231, o312, o321, cornerP, cornerQ, cornerT, orderOf, chosen, share, gapA, gapB, gapG, isDown, rest, upShare, downShare}
+use Rattle.places.specs.TurnedAway.{noPlace}
+use Rattle.places.specs.Located.{placeRefusal, shares, InOrder}
+use Rattle.places.proofs.Cells.{in-cells, cells-in-grid}
+use Rattle.places.proofs.Orders.{Sorted, in-order}
+use Rattle.triangles.specs.Corners.{InNet, cornerControls, valuesIn, turned, arranged}
+use Rattle.triangles.specs.BezierPoints.{controlsOf}
+use Rattle.triangles.specs.TurnedAway.{triangleBeyond}
+use Rattle.triangles.proofs.Corners.{in-net, value-size}
+use Rattle.triangles.proofs.CornerForm.{inForm, form-values, loaded-form, form-within}
+use Rattle.spline.specs.Spline.{spline}
+use Rattle.spline.specs.Parts.{parts}
+use Rattle.spline.proofs.Parts.{parts-value}
+use Rattle.surface.specs.SurfacePoint.{coordinate, surfacePoint}
+use Rattle.surface.specs.TurnedAway.{pointRefusal}
 use Rattle.surface.specs.Answers.{pointAnswer, viewAnswer, viewPoint, millimetres}
-use Rattle.surface.specs.Evaluation.{placeRefusal, parts, evaluated, cornerControls, valuesIn, turned, arranged, shares, InOrder, Evaluable}
-use Rattle.surface.proofs.Corners.{value-size}
-use Rattle.surface.proofs.Cells.{in-cells, in-net-place}
-use Rattle.surface.proofs.Orders.{Sorted, in-order}
-use Rattle.surface.proofs.CornerForm.{inForm, form-values, loaded-form, form-within}
-use Rattle.surface.proofs.Evaluation.{parts-value}
+use Rattle.surface.specs.Evaluation.{evaluated, Evaluable}
+
+pub in-net-place : (net : List ℤ) (w h p q : ℕ) → badSize w h ≡ false → noPlace 1024 w h p q ≡ false → shortNet net w h ≡ false →
+    InNet net w (cell 1024 w p) (cell 1024 h q)
+in-net-place net w h p q e₁ e₆ e₂ = in-net net e₁ e₂ (cells-in-grid w h p q e₁ e₆)
 
 -- ---- from what the code found to the definition
 
@@ -160,15 +171,6 @@ gaps-sum a =
   where
     added : (x y z : ℕ) → y ≤ x → z ≤ y → (x - y) + 2 * (y - z) + 3 * z ≡ x + y + z
     added x y z a b = omega (arith, a, b)
-
--- where P, Q and T stand among the corners
-pub below-three : (k : Index) {n : ℕ} → n ≡ rank k → n < 3
-below-three k e = subst (λ (n : ℕ). n < 3) (sym e) (at k)
-  where
-    at : (k : Index) → rank k < 3
-    at one = lit< tt
-    at two = lit< tt
-    at three = lit< tt
 
 pub evaluable : (net : List ℤ) (w h p q : ℕ) → GoodPlace net w h p q → triangleBeyond net w (chosen 1024 w h p q) ≡ false →
     {down : Bool} {c : List (List (List ℤ))} {P Q T : ℕ} {ahead : Bool} {A B G : ℕ} →

@@ -1,6 +1,4 @@
--- The definitions that contracts cite, in the order of document 01: Bézier nets, surface points and the exact spline, what is turned away,
--- and document 01's number and values of each answer.
-pub mod BezierNet
+-- The definitions that contracts cite: surface points, what is turned away, document 01's number and values of each answer, and the evaluation.
 pub mod SurfacePoint
 pub mod TurnedAway
 pub mod Answers

@@ -1,11 +1,5 @@
 // What the calls answer. `specs/Answers.antt` gives document 01's number and values of each case.
 
-// A call that writes into lent memory.
-pub enum Answer {
-    Done,
-    Refused(u32),
-}
-
 // A surface point in net units.
 pub struct Point {
     pub x: i32,

@@ -8,10 +8,10 @@ use lib.IntN.{ℤ, pos, natAbs}
 use lib.ListN.{getD}
 use Rattle.exact.specs.WeightedSum.{Within}
 use Rattle.exact.proofs.Expressions.{Expr, lit, _⊕_, _⊗_}
-use Rattle.net.specs.Net.{Index, one, two, three, rank, entry, Triangle, field}
-use Rattle.surface.specs.BezierNet.{Controls, controlsOf, indexK, indexM, indexN, isNext}
-use Rattle.surface.specs.SurfacePoint.{Order, o123, o132, o213, o231, o312, o321, cornerP, cornerQ, cornerT}
-use Rattle.surface.specs.Evaluation.{cornerControls, turned, arranged, valuesIn}
+use Rattle.net.specs.Net.{Index, one, two, three, rank, entry, Triangle, field, isNext}
+use Rattle.places.specs.Places.{Order, o123, o132, o213, o231, o312, o321, cornerP, cornerQ, cornerT}
+use Rattle.triangles.specs.BezierPoints.{Controls, controlsOf, indexK, indexM, indexN}
+use Rattle.triangles.specs.Corners.{cornerControls, turned, arranged, valuesIn}
 
 -- ---- the values
 

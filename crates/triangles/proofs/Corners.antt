@@ -2,34 +2,20 @@
 use mathlib.Core.Path.{_≡_, refl}
 use mathlib.Core.Bool.{Bool, true, false, _||_}
 use mathlib.Core.List.{List, [], _∷_}
-use Prim.Native.Nat.{ℕ, _+_, _-_, _*_, _≤_, _<_}
+use Prim.Native.Nat.{ℕ, _+_, _*_, _≤_, _<_}
 use native.Mathlib.Omega.{arith}
-use lib.Dec.{leb}
 use lib.IntN.{ℤ, pos, negsuc, natAbs, _+ℤ_, _-ℤ_}
 use lib.ListN.{length}
-use borrow.Author.Tests.{leb-false, ltb-false}
+use borrow.Author.Tests.{ltb-false}
 use Rattle.exact.proofs.Expressions.{var, lit, _⊕_, identity}
 use Rattle.net.specs.Net.{Index, one, two, three, rank, next, previous, vertexAt, Triangle, triangleAt, corner, stepColumn, stepRow, numbers, start, vertexNumbers, field}
 use Rattle.net.specs.TurnedAway.{badSize, shortNet, anyBeyond}
 use Rattle.net.proofs.Faults.{or-none}
 use Rattle.net.proofs.Places.{good-size, vertex-ends, field-size}
-use Rattle.surface.specs.BezierNet.{controlsOf, indexK, indexM, indexN}
-use Rattle.surface.specs.TurnedAway.{noTriangle, triangleBeyond}
-use Rattle.surface.specs.Evaluation.{InNet}
-
--- a cell of the grid
-pub record InGrid (w h i j : ℕ) : Type 0 where
-  pub column : i + 1 < w
-  pub row : j + 1 < h
-
-pub cell-in-grid : (w h i j : ℕ) → badSize w h ≡ false → noTriangle w h i j ≡ false → InGrid w h i j
-cell-in-grid w h i j e f =
-    let s = good-size w h e in
-    let t = or-none (leb (w - 1) i) (leb (h - 1) j) f in
-    record {
-      column = omega (arith, leb-false (w - 1) i (t .0), s .wide);
-      row = omega (arith, leb-false (h - 1) j (t .1), s .high);
-    }
+use Rattle.places.proofs.Cells.{InGrid}
+use Rattle.triangles.specs.BezierPoints.{controlsOf, indexK, indexM, indexN}
+use Rattle.triangles.specs.TurnedAway.{triangleBeyond}
+use Rattle.triangles.specs.Corners.{InNet}
 
 -- both its triangles lie in the net
 pub in-net : (net : List ℤ) {w h i j : ℕ} → badSize w h ≡ false → shortNet net w h ≡ false → InGrid w h i j → InNet net w i j
@@ -38,10 +24,6 @@ in-net net {w} {h} {i} {j} e₁ e₂ g =
     let l = ltb-false (length net) (numbers w h) e₂ in
     let ends = vertex-ends {w = w} {h = h} {i = i + 1} {j = j + 1} (g .column) (g .row) in
     record { width = s .narrow; column = g .column; row = omega (arith, g .row, s .low); ends = omega (arith, ends, l) }
-
-pub in-net-triangle : (net : List ℤ) (w h i j : ℕ) →
-    badSize w h ≡ false → noTriangle w h i j ≡ false → shortNet net w h ≡ false → InNet net w i j
-in-net-triangle net w h i j e₁ e₆ e₂ = in-net net e₁ e₂ (cell-in-grid w h i j e₁ e₆)
 
 -- no corner of its triangles is stored after (i + 1, j + 1)
 pub corner-before : (w i j : ℕ) → i + 1 < w → (down : Bool) (P : Index) → start w (corner (triangleAt i j down) P) ≤ start w (vertexAt (i + 1) (j + 1))

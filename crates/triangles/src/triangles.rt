@@ -9,8 +9,8 @@ ghost use Prim.Native.Nat.{_+_, _≤_, _<_};
 ghost use lib.ListN.{length, getD};
 ghost use Rattle.net.specs.Net.{one, two, three, vertexAt, triangleAt, start, vertexNumbers, entry};
 ghost use Rattle.net.specs.TurnedAway.{anyBeyond};
-ghost use Rattle.surface.specs.Evaluation.{InNet, cornerControls, valuesIn, turned, arranged};
-ghost use Rattle.surface.specs.TurnedAway.{triangleBeyond};
+ghost use Rattle.triangles.specs.Corners.{InNet, cornerControls, valuesIn, turned, arranged};
+ghost use Rattle.triangles.specs.TurnedAway.{triangleBeyond};
 
 // Whether one of the numbers of three vertices is outside the net range.
 fn vertices_beyond(

@@ -13,10 +13,13 @@ use Rattle.exact.proofs.FillingLaws.{sets-over}
 use Rattle.net.specs.Net.{triangleAt}
 use Rattle.net.specs.TurnedAway.{badSize, shortNet, accepted, outputAfter}
 use Rattle.net.proofs.Faults.{answered, not-accepted, cond-true, cond-false, when-refused}
-use Rattle.surface.specs.BezierNet.{bezierNumbers}
-use Rattle.surface.specs.SurfacePoint.{chosen}
-use Rattle.surface.specs.Answers.{bezierOutput}
-use Rattle.surface.specs.TurnedAway.{noTriangle, noPlace, triangleBeyond, bezierRefusal, pointRefusal}
+use Rattle.places.specs.Places.{chosen}
+use Rattle.places.specs.TurnedAway.{noPlace}
+use Rattle.triangles.specs.TurnedAway.{triangleBeyond}
+use Rattle.bezier.specs.BezierNet.{bezierNumbers}
+use Rattle.bezier.specs.Answers.{bezierOutput}
+use Rattle.bezier.specs.TurnedAway.{noTriangle, bezierRefusal}
+use Rattle.surface.specs.TurnedAway.{pointRefusal}
 use Rattle.refine.proofs.CallLaws.{Left}
 use Rattle.ups.specs.Exports.{bezierExport, pointExport, withRoom}
 

@@ -7,9 +7,12 @@ use lib.Dec.{ltb, eqb}
 use lib.IntN.{ℤ}
 use Rattle.net.specs.Net.{triangleAt}
 use Rattle.net.specs.TurnedAway.{firstFault, badSize, shortNet}
-use Rattle.surface.specs.SurfacePoint.{chosen}
-use Rattle.surface.specs.TurnedAway.{noTriangle, noPlace, triangleBeyond}
-use Rattle.netfile.specs.TurnedAway.{writeRefusal, noRoom, readRefusal, shortFor}
+use Rattle.places.specs.Places.{chosen}
+use Rattle.places.specs.TurnedAway.{noPlace}
+use Rattle.triangles.specs.TurnedAway.{triangleBeyond}
+use Rattle.bezier.specs.TurnedAway.{noTriangle}
+use Rattle.writer.specs.TurnedAway.{writeRefusal, noRoom}
+use Rattle.reader.specs.TurnedAway.{readRefusal, shortFor}
 
 -- `down` is 0 for the up triangle and 1 for the down triangle; another number names no triangle
 abbrev pub bezierExport : List ℤ → ℕ → ℕ → ℕ → ℕ → ℕ → ℕ → ℕ

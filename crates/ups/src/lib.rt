@@ -1,22 +1,22 @@
 // The static library: the calls of document 01 for C and Rust. A slice is a pointer and then a length; 0 is accepted, another number refuses. As in Rust, a slice that
 // is lent to be written overlaps no other.
+use bezier::Answer;
+use bezier::bezier_net;
 use net::bad_size;
 use net::store_point;
 use net::vertex_refusal;
-use netfile::ReadAnswer;
-use netfile::WriteAnswer;
-use netfile::read_with;
-use netfile::write_with;
+use reader::ReadAnswer;
+use reader::read_with;
 use refine::RefineAnswer;
 use refine::refine;
-use refine::refined_point_with;
-use surface::Answer;
+use refined_points::refined_point_with;
 use surface::PointAnswer;
 use surface::ViewAnswer;
 use surface::ViewPoint;
-use surface::bezier_net;
 use surface::surface_point;
 use surface::view_point;
+use writer::WriteAnswer;
+use writer::write_with;
 ghost use mathlib.Core.Path.{_≡_};
 ghost use mathlib.Core.List.{[], _∷_};
 ghost use Prim.Native.Nat.{_≤_};
@@ -25,12 +25,14 @@ ghost use lib.ListN.{length};
 ghost use Rattle.exact.specs.Filling.{over};
 ghost use Rattle.net.specs.Net.{triangleAt};
 ghost use Rattle.net.specs.TurnedAway.{outputAfter, vertexRefusal};
-ghost use Rattle.surface.specs.BezierNet.{bezierNumbers};
+ghost use Rattle.bezier.specs.BezierNet.{bezierNumbers};
 ghost use Rattle.surface.specs.SurfacePoint.{surfacePoint};
 ghost use Rattle.surface.specs.Answers.{viewPoint};
-ghost use Rattle.refine.specs.RefinedNet.{refinedNet};
-ghost use Rattle.refine.specs.Answers.{refusalOf, refusalAt, refinedSurfacePoint, freeScratch, UnchangedFrom};
-ghost use Rattle.netfile.specs.NetFile.{netFile, fileSize, fileWidth, fileHeight, fileNumbers};
+ghost use Rattle.steps.specs.RefinedNet.{refinedNet};
+ghost use Rattle.steps.specs.Steps.{UnchangedFrom};
+ghost use Rattle.refine.specs.Answers.{refusalOf, freeScratch};
+ghost use Rattle.refined_points.specs.Answers.{refusalAt, refinedSurfacePoint};
+ghost use Rattle.words.specs.NetFile.{netFile, fileSize, fileWidth, fileHeight, fileNumbers};
 ghost use Rattle.ups.specs.Exports.{bezierExport, pointExport, withRoom, writeExport, readExport};
 
 // 1, 6, 2, or 0: the companion of the vertex part.

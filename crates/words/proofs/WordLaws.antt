@@ -17,9 +17,8 @@ use Rattle.exact.specs.Filling.{runs}
 use Rattle.exact.proofs.Parts.{integers, sum-parts, difference-parts}
 use Rattle.exact.proofs.FillingLaws.{runs-of-list}
 use Rattle.net.proofs.Faults.{cond-true, cond-false}
-use Rattle.netfile.specs.NetFile.{word, kindOf, payloadOf, complement, signed, wordBytes, firstWord}
-use Rattle.netfile.specs.LowFirst.{turned, lowFirst, lowBytes}
-use Rattle.netfile.specs.Promises.{AllBytes}
+use Rattle.words.specs.NetFile.{word, kindOf, payloadOf, complement, signed, wordBytes, firstWord, AllBytes}
+use Rattle.words.specs.LowFirst.{turned, lowFirst, lowBytes}
 
 -- ---- kind and payload
 

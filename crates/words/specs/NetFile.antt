@@ -2,7 +2,7 @@
 use mathlib.Core.Path.{_≡_, refl}
 use mathlib.Core.Bool.{cond}
 use mathlib.Core.List.{List, [], _∷_, _++_}
-use Prim.Native.Nat.{ℕ, zero, suc, _+_, _-_, _*_, _/_, _%_}
+use Prim.Native.Nat.{ℕ, zero, suc, _+_, _-_, _*_, _/_, _%_, _<_}
 use lib.Dec.{ltb}
 use lib.IntN.{ℤ, pos, negsuc, _-ℤ_}
 use lib.ListN.{getD, take, drop}
@@ -102,6 +102,10 @@ fromPoint file n = drop (8 + 12 * n) file
 -- the numbers of the net
 abbrev pub fileNumbers : List ℕ → List ℤ
 fileNumbers file = runs (points (fileWidth file) (fileHeight file)) (λ n. firstPoint (fromPoint file n))
+
+-- the elements of a slice of bytes are bytes
+abbrev pub AllBytes : List ℕ → Type 0
+AllBytes file = (i : ℕ) → getD file i 0 < 256
 
 -- ---- worked cases: a height word of 17, both ways; -1 and the limits of 28 bits; the word of y = -2; the file of 2 by 3 with the numbers -1 to -54
 

@@ -6,10 +6,10 @@ ghost use lib.IntN.{natAbs};
 ghost use lib.ListN.{length};
 ghost use lib.Seq.{sets};
 ghost use Rattle.net.specs.TurnedAway.{firstFault};
-ghost use Rattle.netfile.specs.NetFile.{word, payloadOf, complement, signed, wordBytes, numberBytes, firstWord, firstNumber};
-ghost use Rattle.netfile.specs.LowFirst.{turned, lowFirst, lowBytes};
-ghost use Rattle.netfile.specs.TurnedAway.{wordFaults};
-ghost use Rattle.netfile.specs.Answers.{wordTold, answer};
+ghost use Rattle.words.specs.NetFile.{word, payloadOf, complement, signed, wordBytes, numberBytes, firstWord, firstNumber};
+ghost use Rattle.words.specs.LowFirst.{turned, lowFirst, lowBytes};
+ghost use Rattle.words.specs.TurnedAway.{wordFaults};
+ghost use Rattle.words.specs.Answers.{wordTold, answer};
 
 // What the bytes that are left begin with where a word is due: the payload of a word of the kind asked for, or 7 or 8.
 pub enum Parsed {

@@ -16,9 +16,9 @@ use Rattle.net.specs.Net.{numbers}
 use Rattle.net.specs.TurnedAway.{firstFault, outputAfter, badSize, anyBeyond}
 use Rattle.net.proofs.Beyond.{cut, cut-short}
 use Rattle.net.proofs.Faults.{Clear, none-clear, or-none}
-use Rattle.netfile.specs.NetFile.{word, widthKind, heightKind, xKind, yKind, zKind, endKind, wordBytes, points, numberBytes, pointBytes, netFile, fileSize}
-use Rattle.netfile.specs.TurnedAway.{writeFaults, writeRefusal, noRoom}
-use Rattle.netfile.specs.Answers.{writeOutputWith}
+use Rattle.words.specs.NetFile.{word, widthKind, heightKind, xKind, yKind, zKind, endKind, wordBytes, points, numberBytes, pointBytes, netFile, fileSize}
+use Rattle.writer.specs.TurnedAway.{writeFaults, writeRefusal, noRoom}
+use Rattle.writer.specs.Answers.{writeOutputWith}
 
 pub word-length : (v : ℕ) → length (wordBytes v) ≡ 4
 unfolding wordBytes

@@ -1,21 +1,21 @@
 // The writer: nothing is stored before it is known that nothing is refused. What the inner functions ask is met by those below them in this file.
 use crate::answers::WriteAnswer;
-use crate::words::store_number;
-use crate::words::store_word;
 use net::bad_size;
 use net::net_beyond;
 use net::short_net;
+use words::store_number;
+use words::store_word;
 ghost use mathlib.Core.Path.{_≡_};
 ghost use mathlib.Core.Bool.{false, _||_};
 ghost use Prim.Native.Nat.{_+_, _*_, _≤_, _<_};
-ghost use lib.ListN.{length, take};
+ghost use lib.ListN.{length};
 ghost use lib.Seq.{sets};
 ghost use Rattle.exact.specs.Filling.{over, runs};
 ghost use Rattle.net.specs.Net.{numbers};
 ghost use Rattle.net.specs.TurnedAway.{badSize, anyBeyond};
-ghost use Rattle.netfile.specs.NetFile.{pointBytes, netFile, fileSize};
-ghost use Rattle.netfile.specs.TurnedAway.{noRoom, writeRefusal};
-ghost use Rattle.netfile.specs.Answers.{writeTold, writeAnswerWith, writeOutputWith, writeAnswer, writeOutput};
+ghost use Rattle.words.specs.NetFile.{pointBytes, netFile, fileSize};
+ghost use Rattle.writer.specs.TurnedAway.{noRoom, writeRefusal};
+ghost use Rattle.writer.specs.Answers.{writeTold, writeAnswerWith, writeOutputWith, writeAnswer, writeOutput};
 
 // The number of the first fault, 1, 2, 5 or 3, or 0 where there is none.
 fn write_refusal(net: &[i32], w: usize, h: usize, short: bool, room: usize) -> u32

@@ -4,7 +4,7 @@ use lib.ListN.{length}
 use borrow.Author.Tests.{lt-ltb, le-ltb}
 use borrow.Author.Needs.{needs}
 use Rattle.net.proofs.Faults.{cond-true}
-use Rattle.surface.specs.Answers.{answerTold}
+use Rattle.bezier.specs.Answers.{answerTold}
 use Rattle.ups.proofs.Exports.{no-kind, bezier-outcome}
 use Rattle.ups.proofs.ups_bezier_net.Statement.{statement}
 use Rattle.ups.proofs.ups_bezier_net.Tie as tie

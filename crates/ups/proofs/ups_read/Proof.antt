@@ -12,10 +12,10 @@ use borrow.Author.Tests.{ltb-false}
 use borrow.Author.Needs.{needs}
 use Rattle.net.specs.TurnedAway.{accepted}
 use Rattle.net.proofs.Faults.{or-none, answered}
-use Rattle.netfile.specs.NetFile.{fileWidth, fileHeight, fileNumbers}
-use Rattle.netfile.specs.TurnedAway.{shortFor, readRefusal}
-use Rattle.netfile.specs.Answers.{readTold}
-use Rattle.netfile.proofs.ReadLaws.{read-fits}
+use Rattle.words.specs.NetFile.{fileWidth, fileHeight, fileNumbers}
+use Rattle.reader.specs.TurnedAway.{shortFor, readRefusal}
+use Rattle.reader.specs.Answers.{readTold}
+use Rattle.reader.proofs.ReadLaws.{read-fits}
 use Rattle.ups.proofs.Exports.{exported, not-exported}
 use Rattle.ups.proofs.ups_read.Statement.{statement}
 use Rattle.ups.proofs.ups_read.Tie as tie

@@ -4,7 +4,7 @@ use mathlib.Core.List.{List}
 use Prim.Native.Nat.{ℕ}
 use lib.IntN.{ℤ}
 use borrow.Author.Needs.{needs}
-use Rattle.refine.specs.RefinedNet.{refinedNet}
+use Rattle.steps.specs.RefinedNet.{refinedNet}
 use Rattle.refine.specs.Answers.{refineTold, refusalOf}
 use Rattle.ups.proofs.Exports.{left-exported}
 use Rattle.ups.proofs.ups_refine.Statement.{statement}

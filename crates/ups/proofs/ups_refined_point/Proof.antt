@@ -15,9 +15,9 @@ use Rattle.exact.proofs.SignedCode.{reads-back}
 use Rattle.net.specs.TurnedAway.{accepted}
 use Rattle.net.proofs.Faults.{answered, not-accepted, when-refused}
 use Rattle.surface.specs.Answers.{pointTold}
-use Rattle.refine.specs.RefinedNet.{refinedNet}
-use Rattle.refine.specs.Answers.{refusalAt, refinedSurfacePoint}
-use Rattle.refine.proofs.RefinedPoints.{point-taken}
+use Rattle.steps.specs.RefinedNet.{refinedNet}
+use Rattle.refined_points.specs.Answers.{refusalAt, refinedSurfacePoint}
+use Rattle.refined_points.proofs.RefinedPoints.{point-taken}
 use Rattle.ups.proofs.Exports.{left-exported}
 use Rattle.ups.proofs.ups_refined_point.Statement.{statement}
 use Rattle.ups.proofs.ups_refined_point.Tie as tie

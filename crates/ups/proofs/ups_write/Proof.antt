@@ -10,10 +10,10 @@ use borrow.Author.Tests.{ltb-false}
 use borrow.Author.Needs.{needs}
 use Rattle.net.specs.TurnedAway.{accepted}
 use Rattle.net.proofs.Faults.{or-none, answered}
-use Rattle.netfile.specs.NetFile.{netFile, fileSize}
-use Rattle.netfile.specs.TurnedAway.{noRoom, writeRefusal}
-use Rattle.netfile.specs.Answers.{writeTold}
-use Rattle.netfile.proofs.WriteLaws.{write-fits}
+use Rattle.words.specs.NetFile.{netFile, fileSize}
+use Rattle.writer.specs.TurnedAway.{noRoom, writeRefusal}
+use Rattle.writer.specs.Answers.{writeTold}
+use Rattle.writer.proofs.WriteLaws.{write-fits}
 use Rattle.ups.proofs.Exports.{exported, not-exported}
 use Rattle.ups.proofs.ups_write.Statement.{statement}
 use Rattle.ups.proofs.ups_write.Tie as tie

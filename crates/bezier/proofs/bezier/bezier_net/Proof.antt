@@ -1,4 +1,4 @@
--- `surface::bezier::bezier_net` meets its contract.
+-- `bezier::bezier::bezier_net` meets its contract.
 use mathlib.Core.List.{List}
 use mathlib.Core.Bool.{Bool}
 use mathlib.Core.Path.{_≡_, sym, ap, _∙_, subst}
@@ -10,11 +10,12 @@ use borrow.Author.Needs.{needs}
 use Rattle.exact.specs.WeightedSum.{Within}
 use Rattle.exact.specs.Filling.{over, runs}
 use Rattle.net.specs.Net.{Triangle, triangleAt}
-use Rattle.surface.specs.Evaluation.{valuesIn, threeAt}
-use Rattle.surface.specs.TurnedAway.{bezierRefusal}
-use Rattle.surface.proofs.BezierNets.{GoodTriangle, good-triangle, formed, formed-within, turned-values, pointsOf, points-of-net, accepted-bezier, refused-bezier}
-use Rattle.surface.proofs.bezier.bezier_net.Statement.{statement}
-use Rattle.surface.proofs.bezier.bezier_net.Tie as tie
+use Rattle.triangles.specs.Corners.{valuesIn}
+use Rattle.bezier.specs.Weights.{threeAt}
+use Rattle.bezier.specs.TurnedAway.{bezierRefusal}
+use Rattle.bezier.proofs.BezierNets.{GoodTriangle, good-triangle, formed, formed-within, turned-values, pointsOf, points-of-net, accepted-bezier, refused-bezier}
+use Rattle.bezier.proofs.bezier.bezier_net.Statement.{statement}
+use Rattle.bezier.proofs.bezier.bezier_net.Tie as tie
 
 -- where nothing is refused
 module _ (c : tie.Else1) where

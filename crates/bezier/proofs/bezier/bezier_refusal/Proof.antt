@@ -1,14 +1,14 @@
--- `surface::bezier::bezier_refusal` meets its contract: each branch is the first fault that is there.
+-- `bezier::bezier::bezier_refusal` meets its contract: each branch is the first fault that is there.
 use mathlib.Core.Bool.{false}
 use mathlib.Core.Path.{_≡_, refl, sym, _∙_}
 use borrow.Author.Tests.{lt-ltb, le-ltb}
 use borrow.Author.Needs.{needs}
-use Rattle.net.proofs.Faults.{cond-true, cond-false}
 use Rattle.net.specs.TurnedAway.{badSize, shortNet}
-use Rattle.surface.specs.TurnedAway.{noTriangle}
-use Rattle.surface.proofs.Corners.{in-net-triangle}
-use Rattle.surface.proofs.bezier.bezier_refusal.Statement.{statement}
-use Rattle.surface.proofs.bezier.bezier_refusal.Tie as tie
+use Rattle.net.proofs.Faults.{cond-true, cond-false}
+use Rattle.bezier.specs.TurnedAway.{noTriangle}
+use Rattle.bezier.proofs.BezierNets.{in-net-triangle}
+use Rattle.bezier.proofs.bezier.bezier_refusal.Statement.{statement}
+use Rattle.bezier.proofs.bezier.bezier_refusal.Tie as tie
 
 -- what is known after each test that did not refuse
 fine₁ : (c : tie.Else1) → badSize (c .before .before .args .w) (c .before .before .args .h) ≡ false

@@ -1,11 +1,11 @@
--- `surface::bezier::no_triangle` meets its contract.
+-- `bezier::bezier::no_triangle` meets its contract.
 use mathlib.Core.Path.{refl}
 use native.Mathlib.Omega.{arith}
 use borrow.Author.Tests.{le-leb, lt-leb}
 use Rattle.net.proofs.Places.{good-size}
 use Rattle.net.proofs.Faults.{or-yes, or-no}
-use Rattle.surface.proofs.bezier.no_triangle.Statement.{statement}
-use Rattle.surface.proofs.bezier.no_triangle.Tie as tie
+use Rattle.bezier.proofs.bezier.no_triangle.Statement.{statement}
+use Rattle.bezier.proofs.bezier.no_triangle.Tie as tie
 
 sub-if1 : tie.Need-sub-if1
 sub-if1 c = let s = good-size (c .args .w) (c .args .h) (c .pre) in omega (arith, s .wide)

@@ -1,9 +1,9 @@
--- `surface::bezier::ordinates` meets its contract: the weights of each row add up to 36, so each point fits.
+-- `bezier::bezier::ordinates` meets its contract: the weights of each row add up to 36, so each point fits.
 use mathlib.Core.List.{[], _∷_}
 use borrow.Author.Needs.{needs}
-use Rattle.surface.proofs.Weights.{row-fits, row-reads}
-use Rattle.surface.proofs.bezier.ordinates.Statement.{statement}
-use Rattle.surface.proofs.bezier.ordinates.Tie as tie
+use Rattle.bezier.proofs.Weights.{row-fits, row-reads}
+use Rattle.bezier.proofs.bezier.ordinates.Statement.{statement}
+use Rattle.bezier.proofs.bezier.ordinates.Tie as tie
 
 weighted-sum9-requires : tie.Need-weighted-sum9-requires
 weighted-sum9-requires c κs = search needs

@@ -1,4 +1,4 @@
--- `surface::bezier::write_points` meets its contract: each turn stores one run of three numbers more.
+-- `bezier::bezier::write_points` meets its contract: each turn stores one run of three numbers more.
 use mathlib.Core.List.{List, [], _∷_}
 use mathlib.Core.Path.{_≡_, refl, ap, _∙_}
 use Prim.Native.Nat.{ℕ, _-_, _*_, _≤_}
@@ -10,12 +10,12 @@ use lib.IntN.{ℤ, pos}
 use mir.Syntax.{w32}
 use mir.Val.{toZ, ofZ}
 use borrow.Author.Needs.{needs}
+use Rattle.exact.specs.Filling.{over, runs}
 use Rattle.exact.proofs.SignedCode.{reads-back}
 use Rattle.exact.proofs.FillingLaws.{over-none, over-more}
-use Rattle.exact.specs.Filling.{over, runs}
-use Rattle.surface.specs.Evaluation.{threeAt}
-use Rattle.surface.proofs.bezier.write_points.Statement.{statement}
-use Rattle.surface.proofs.bezier.write_points.Tie as tie
+use Rattle.bezier.specs.Weights.{threeAt}
+use Rattle.bezier.proofs.bezier.write_points.Statement.{statement}
+use Rattle.bezier.proofs.bezier.write_points.Tie as tie
 
 abbrev Inv-loop : tie.InvT-loop
 Inv-loop out₀ xs ys zs n₀ out n =

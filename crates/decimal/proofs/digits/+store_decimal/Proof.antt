@@ -5,18 +5,18 @@ use Prim.Native.Nat.{ℕ, _+_, _/_, _%_, _≤_, _<_}
 use native.Mathlib.Omega.{arith}
 use lib.ListN.{length}
 use borrow.Author.Needs.{needs}
-use Rattle.listing_text.specs.Decimal.{digit, decimal}
-use Rattle.listing_text.proofs.DecimalLaws.{decimal-low, decimal-high}
-use Rattle.listing_text.proofs.StoringLaws.{stored-as, stored-then, room-first, room-then}
 use borrow.Fn.Kinds.{In}
 use borrow.Fn.PlainCycle.{Measures, is, falls, and}
-use Rattle.listing_text.proofs.digits.store_decimal.Reads as store-decimal
-use Rattle.listing_text.proofs.digits.store_decimal.Kinds as store-decimal-kinds
-use Rattle.listing_text.proofs.digits.+store_decimal.Lts-store_decimal as store-decimal-lts
-use Rattle.listing_text.proofs.digits.digit_byte.Reads as digit-byte-reads
-use Rattle.listing_text.proofs.digits.store_byte.Reads as store-byte-reads
-use Rattle.listing_text.proofs.digits.+store_decimal.{statement}
-use Rattle.listing_text.proofs.digits.+store_decimal.Tie.{close}
+use Rattle.decimal.specs.Decimal.{digit, decimal}
+use Rattle.decimal.proofs.DecimalLaws.{decimal-low, decimal-high}
+use Rattle.decimal.proofs.StoringLaws.{stored-as, stored-then, room-first, room-then}
+use Rattle.decimal.proofs.digits.store_decimal.Reads as store-decimal
+use Rattle.decimal.proofs.digits.store_decimal.Kinds as store-decimal-kinds
+use Rattle.decimal.proofs.digits.+store_decimal.Lts-store_decimal as store-decimal-lts
+use Rattle.decimal.proofs.digits.digit_byte.Reads as digit-byte-reads
+use Rattle.decimal.proofs.digits.store_byte.Reads as store-byte-reads
+use Rattle.decimal.proofs.digits.+store_decimal.{statement}
+use Rattle.decimal.proofs.digits.+store_decimal.Tie.{close}
 
 abbrev μ-store-decimal : Measures 1 store-decimal-kinds.ps ℕ
 μ-store-decimal κs a = a .0

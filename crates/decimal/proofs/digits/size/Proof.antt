@@ -1,6 +1,6 @@
--- `listing_text::digits::size` meets its contract: read as an i64, a number or its opposite is its size.
+-- `decimal::digits::size` meets its contract: read as an i64, a number or its opposite is its size.
 use mathlib.Core.Path.{_≡_, refl, sym, ap, subst, _∙_}
-use Prim.Native.Nat.{ℕ, _^_, _≤_, _<_}
+use Prim.Native.Nat.{ℕ, _^_, _≤_}
 use native.Mathlib.Nat.{lt-of-le-of-lt}
 use lib.Dec.{T, lit<}
 use lib.IntN.{ℤ, pos, negsuc, natAbs, _-ℤ_}
@@ -11,8 +11,8 @@ use mir.Facts.{toZ-ofZ, sfits-widen}
 use Rattle.exact.proofs.Parts.{integers, difference-parts}
 use Rattle.exact.proofs.Sizes.{size-of-fits, fits-of-size}
 use Rattle.exact.proofs.SignedCode.{less-taken, less-left}
-use Rattle.listing_text.proofs.digits.size.Statement.{statement}
-use Rattle.listing_text.proofs.digits.size.Tie as tie
+use Rattle.decimal.proofs.digits.size.Statement.{statement}
+use Rattle.decimal.proofs.digits.size.Tie as tie
 
 opposite : (z : ℤ) → z <ℤ pos 0 → pos 0 -ℤ z ≡ pos (natAbs z)
 opposite (pos n) h = absurd (omega integers)

@@ -1,10 +1,10 @@
--- `listing_text::digits::store_count` meets its contract: the digits, and then the byte.
+-- `decimal::digits::store_count` meets its contract: the digits, and then the byte.
 use mathlib.Core.List.{[], _∷_}
 use borrow.Author.Needs.{needs}
-use Rattle.listing_text.specs.Decimal.{decimal}
-use Rattle.listing_text.proofs.StoringLaws.{stored-then, room-first, room-then}
-use Rattle.listing_text.proofs.digits.store_count.Statement.{statement}
-use Rattle.listing_text.proofs.digits.store_count.Tie as tie
+use Rattle.decimal.specs.Decimal.{decimal}
+use Rattle.decimal.proofs.StoringLaws.{stored-then, room-first, room-then}
+use Rattle.decimal.proofs.digits.store_count.Statement.{statement}
+use Rattle.decimal.proofs.digits.store_count.Tie as tie
 
 store-decimal-requires : tie.Need-store-decimal-requires
 store-decimal-requires c κs =

@@ -1,4 +1,4 @@
--- `listing_text::digits::store_number` meets its contract: the number with its sign, and then the byte.
+-- `decimal::digits::store_number` meets its contract: the number with its sign, and then the byte.
 use mathlib.Core.Path.{_≡_, sym, ap, subst}
 use mathlib.Core.List.{List, [], _∷_, _++_}
 use Prim.Native.Nat.{ℕ, _+_, _≤_}
@@ -8,10 +8,10 @@ use mir.Facts.{toZ-ofZ}
 use mir.Syntax.{w32}
 use mir.Val.{toZ, ofZ}
 use borrow.Author.Needs.{needs}
-use Rattle.listing_text.specs.Decimal.{signedDecimal}
-use Rattle.listing_text.proofs.StoringLaws.{stored-as, stored-then, room-first, room-then}
-use Rattle.listing_text.proofs.digits.store_number.Statement.{statement}
-use Rattle.listing_text.proofs.digits.store_number.Tie as tie
+use Rattle.decimal.specs.Decimal.{signedDecimal}
+use Rattle.decimal.proofs.StoringLaws.{stored-as, stored-then, room-first, room-then}
+use Rattle.decimal.proofs.digits.store_number.Statement.{statement}
+use Rattle.decimal.proofs.digits.store_number.Tie as tie
 
 module _ (c : tie.Start) where
   -- the number as it is handed on

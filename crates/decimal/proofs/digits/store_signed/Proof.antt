@@ -1,4 +1,4 @@
--- `listing_text::digits::store_signed` meets its contract: below zero the sign comes before the digits of the size.
+-- `decimal::digits::store_signed` meets its contract: below zero the sign comes before the digits of the size.
 use mathlib.Core.Path.{_≡_, sym, ap, subst, _∙_}
 use mathlib.Core.List.{List, [], _∷_, _++_}
 use Prim.Native.Nat.{ℕ, _+_, _≤_}
@@ -8,11 +8,11 @@ use lib.Signed.{ltZ}
 use mir.Facts.{toZ-ofZ}
 use borrow.Author.Needs.{needs}
 use Rattle.exact.proofs.SignedCode.{less-taken, less-left}
-use Rattle.listing_text.specs.Decimal.{decimal, signedDecimal}
-use Rattle.listing_text.proofs.DecimalLaws.{signed-below, signed-above}
-use Rattle.listing_text.proofs.StoringLaws.{stored-as, stored-then, room-first, room-then}
-use Rattle.listing_text.proofs.digits.store_signed.Statement.{statement}
-use Rattle.listing_text.proofs.digits.store_signed.Tie as tie
+use Rattle.decimal.specs.Decimal.{decimal, signedDecimal}
+use Rattle.decimal.proofs.DecimalLaws.{signed-below, signed-above}
+use Rattle.decimal.proofs.StoringLaws.{stored-as, stored-then, room-first, room-then}
+use Rattle.decimal.proofs.digits.store_signed.Statement.{statement}
+use Rattle.decimal.proofs.digits.store_signed.Tie as tie
 
 module _ (c : tie.After-size) where
   abbrev z : ℤ

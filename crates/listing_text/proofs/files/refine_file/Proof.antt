@@ -8,17 +8,17 @@ use lib.IntN.{ℤ}
 use lib.ListN.{length, getD}
 use borrow.Author.Needs.{needs}
 use Rattle.exact.specs.Filling.{over}
-use Rattle.net.specs.TurnedAway.{badSize, outputAfter}
+use Rattle.net.specs.TurnedAway.{badSize, outputAfter, AcceptedNet}
 use Rattle.net.proofs.Faults.{answered, not-accepted, refused-answer, when-accepted, when-refused}
 use Rattle.subdivision.specs.Refinement.{refinedSide}
-use Rattle.subdivision.specs.Promises.{AcceptedNet}
-use Rattle.netfile.specs.NetFile.{fileWidth, fileHeight}
-use Rattle.netfile.specs.TurnedAway.{readRefusal, shortFor}
-use Rattle.netfile.specs.Answers.{readTold, answer}
-use Rattle.netfile.specs.Promises.{Readable}
-use Rattle.netfile.proofs.ReadLaws.{read-parts, good-head}
-use Rattle.refine.specs.RefinedNet.{refinedNet}
+use Rattle.steps.specs.RefinedNet.{refinedNet}
 use Rattle.refine.specs.TurnedAway.{tooShort, refineRefusal}
+use Rattle.words.specs.NetFile.{fileWidth, fileHeight}
+use Rattle.words.specs.Answers.{answer}
+use Rattle.reader.specs.TurnedAway.{readRefusal, shortFor}
+use Rattle.reader.specs.Answers.{readTold}
+use Rattle.reader.proofs.ReadLaws.{read-parts, good-head}
+use Rattle.netfile.specs.Promises.{Readable}
 use Rattle.listing_text.specs.Printed.{listRefusal, refinedFile}
 use Rattle.listing_text.proofs.FileLaws.{refused-reading, refusal-after, refined-after, accepted-after, ready}
 use Rattle.listing_text.proofs.files.refine_file.Statement.{statement}

@@ -1,17 +1,17 @@
 -- `listing_text::lines::list_refusal` meets its contract: the word, and then the number.
 use mathlib.Core.Path.{ap}
 use mathlib.Core.List.{List, _++_}
-use Prim.Native.Nat.{ℕ, _+_, _≤_, _<_}
+use Prim.Native.Nat.{ℕ, _+_, _≤_}
 use native.Mathlib.Nat.{lt-trans}
 use native.Mathlib.Omega.{arith}
 use lib.Dec.{lit<}
 use lib.ListN.{length}
 use borrow.Author.Needs.{needs}
-use Rattle.listing_text.specs.Decimal.{decimal}
+use Rattle.decimal.specs.Decimal.{decimal}
+use Rattle.decimal.specs.Storing.{Stored}
+use Rattle.decimal.proofs.StoringLaws.{stored-as, stored-then, stored-line, room-then}
 use Rattle.listing_text.specs.Listing.{refusedWord, space, lineEnd, refusalLine, longestLine}
-use Rattle.listing_text.specs.Storing.{Stored}
 use Rattle.listing_text.proofs.LineLaws.{refusal-parts, refusal-length}
-use Rattle.listing_text.proofs.StoringLaws.{stored-as, stored-then, stored-line, room-then}
 use Rattle.listing_text.proofs.lines.list_refusal.Statement.{statement}
 use Rattle.listing_text.proofs.lines.list_refusal.Tie as tie
 

@@ -5,11 +5,11 @@ use Prim.Native.Nat.{ℕ, _+_, _≤_}
 use native.Mathlib.Omega.{arith}
 use lib.ListN.{length}
 use borrow.Author.Needs.{needs}
-use Rattle.listing_text.specs.Decimal.{decimal}
+use Rattle.decimal.specs.Decimal.{decimal}
+use Rattle.decimal.specs.Storing.{Stored}
+use Rattle.decimal.proofs.StoringLaws.{stored-as, stored-then, room-first, room-then}
 use Rattle.listing_text.specs.Listing.{netWord, space, lineEnd}
-use Rattle.listing_text.specs.Storing.{Stored}
 use Rattle.listing_text.proofs.LineLaws.{head-parts}
-use Rattle.listing_text.proofs.StoringLaws.{stored-as, stored-then, room-first, room-then}
 use Rattle.listing_text.proofs.lines.store_head_line.Statement.{statement}
 use Rattle.listing_text.proofs.lines.store_head_line.Tie as tie
 

@@ -9,11 +9,11 @@ use mir.Facts.{toZ-ofZ}
 use mir.Syntax.{w32}
 use mir.Val.{toZ, ofZ}
 use borrow.Author.Needs.{needs}
-use Rattle.listing_text.specs.Decimal.{decimal, signedDecimal}
+use Rattle.decimal.specs.Decimal.{decimal, signedDecimal}
+use Rattle.decimal.specs.Storing.{Stored}
+use Rattle.decimal.proofs.StoringLaws.{stored-as, stored-then, room-first, room-then}
 use Rattle.listing_text.specs.Listing.{pointLine, space, lineEnd}
-use Rattle.listing_text.specs.Storing.{Stored}
 use Rattle.listing_text.proofs.LineLaws.{point-parts}
-use Rattle.listing_text.proofs.StoringLaws.{stored-as, stored-then, room-first, room-then}
 use Rattle.listing_text.proofs.lines.store_point_line.Statement.{statement}
 use Rattle.listing_text.proofs.lines.store_point_line.Tie as tie
 

@@ -7,8 +7,8 @@ use native.Mathlib.Omega.{arith}
 use lib.ListN.{length, take, getD, set}
 use lib.Seq.{take-suc, take-length}
 use borrow.Author.Needs.{needs}
-use Rattle.listing_text.specs.Storing.{Stored}
-use Rattle.listing_text.proofs.StoringLaws.{stored-as, stored-then}
+use Rattle.decimal.specs.Storing.{Stored}
+use Rattle.decimal.proofs.StoringLaws.{stored-as, stored-then}
 use Rattle.listing_text.proofs.lines.store_text.Statement.{statement}
 use Rattle.listing_text.proofs.lines.store_text.Tie as tie
 

@@ -13,14 +13,14 @@ use borrow.Author.Needs.{needs}
 use Rattle.exact.proofs.Sizes.{size-of-fits}
 use Rattle.exact.proofs.SignedCode.{reads-back, reads-as}
 use Rattle.net.proofs.Places.{GoodSize, good-size}
-use Rattle.surface.specs.declared.answers.Point.{Point}
 use Rattle.surface.specs.SurfacePoint.{coordinate}
 use Rattle.surface.specs.TurnedAway.{pointRefusal}
 use Rattle.surface.specs.Answers.{pointTold}
+use Rattle.decimal.proofs.StoringLaws.{stored-as, stored-line}
 use Rattle.listing_text.specs.Listing.{headLine, pointLine, pieceText, longestLine}
 use Rattle.listing_text.proofs.LineLaws.{head-length, point-length}
 use Rattle.listing_text.proofs.PieceLaws.{vertex-taken, point-told, not-refused, vertex-column, vertex-row, first-piece, vertex-piece}
-use Rattle.listing_text.proofs.StoringLaws.{stored-as, stored-line}
+use Rattle.surface.specs.declared.answers.Point.{Point}
 use Rattle.listing_text.proofs.pieces.list_piece.Statement.{statement}
 use Rattle.listing_text.proofs.pieces.list_piece.Tie as tie
 

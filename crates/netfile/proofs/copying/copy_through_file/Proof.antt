@@ -6,8 +6,8 @@ use Prim.Native.Nat.{ℕ}
 use lib.IntN.{ℤ}
 use lib.ListN.{length}
 use borrow.Author.Needs.{needs}
-use Rattle.netfile.specs.TurnedAway.{noRoom}
-use Rattle.netfile.specs.Answers.{writeTold, writeAnswerWith, writeOutputWith}
+use Rattle.writer.specs.TurnedAway.{noRoom}
+use Rattle.writer.specs.Answers.{writeTold, writeAnswerWith, writeOutputWith}
 use Rattle.netfile.proofs.CopyLaws.{short, part-there, copied, not-copied}
 use Rattle.netfile.proofs.copying.copy_through_file.Statement.{statement}
 use Rattle.netfile.proofs.copying.copy_through_file.Tie as tie

@@ -1,11 +1,11 @@
--- `surface::places::locate` meets its contract.
+-- `places::places::locate` meets its contract.
 use mathlib.Core.Bool.{true, false}
 use borrow.Author.Tests.{lt-ltb, le-ltb}
 use borrow.Author.Needs.{needs}
 use Rattle.net.proofs.Places.{good-size}
-use Rattle.surface.proofs.Cells.{in-cells, placed, left-at, sum-fits, left-over}
-use Rattle.surface.proofs.places.locate.Statement.{statement}
-use Rattle.surface.proofs.places.locate.Tie as tie
+use Rattle.places.proofs.Cells.{in-cells, placed, left-at, sum-fits, left-over}
+use Rattle.places.proofs.places.locate.Statement.{statement}
+use Rattle.places.proofs.places.locate.Tie as tie
 
 cell-of-requires : tie.Need-cell-of-requires
 cell-of-requires c κs = let s = good-size (c .args .w) (c .args .h) (c .pre .0) in s .wide

@@ -1,11 +1,11 @@
--- `surface::places::no_place` meets its contract.
+-- `places::places::no_place` meets its contract.
 use mathlib.Core.Path.{refl}
 use native.Mathlib.Omega.{arith}
 use borrow.Author.Tests.{lt-ltb, le-ltb}
 use Rattle.net.proofs.Places.{good-size}
 use Rattle.net.proofs.Faults.{or-yes, or-no}
-use Rattle.surface.proofs.places.no_place.Statement.{statement}
-use Rattle.surface.proofs.places.no_place.Tie as tie
+use Rattle.places.proofs.places.no_place.Statement.{statement}
+use Rattle.places.proofs.places.no_place.Tie as tie
 
 sub-if1 : tie.Need-sub-if1
 sub-if1 c = let s = good-size (c .args .w) (c .args .h) (c .pre) in omega (arith, s .wide)

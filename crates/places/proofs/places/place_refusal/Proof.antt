@@ -1,11 +1,11 @@
--- `surface::places::place_refusal` meets its contract: each branch is the first fault that is there.
+-- `places::places::place_refusal` meets its contract: each branch is the first fault that is there.
 use mathlib.Core.Bool.{false}
 use mathlib.Core.Path.{_≡_, refl, sym, _∙_}
 use borrow.Author.Needs.{needs}
-use Rattle.net.proofs.Faults.{cond-true, cond-false}
 use Rattle.net.specs.TurnedAway.{badSize}
-use Rattle.surface.proofs.places.place_refusal.Statement.{statement}
-use Rattle.surface.proofs.places.place_refusal.Tie as tie
+use Rattle.net.proofs.Faults.{cond-true, cond-false}
+use Rattle.places.proofs.places.place_refusal.Statement.{statement}
+use Rattle.places.proofs.places.place_refusal.Tie as tie
 
 -- what is known after the first test
 fine₁ : (c : tie.Else1) → badSize (c .before .before .args .w) (c .before .before .args .h) ≡ false

@@ -1,10 +1,10 @@
--- `surface::places::put_in_order` meets its contract: each branch has one order.
+-- `places::places::put_in_order` meets its contract: each branch has one order.
 use borrow.Author.Needs.{needs}
-use Rattle.surface.specs.Evaluation.{shares}
-use Rattle.surface.specs.SurfacePoint.{o123, o132, o213, o231, o312, o321}
-use Rattle.surface.proofs.Orders.{ordered, is-123, is-132, is-312, is-213, is-231, is-321}
-use Rattle.surface.proofs.places.put_in_order.Statement.{statement}
-use Rattle.surface.proofs.places.put_in_order.Tie as tie
+use Rattle.places.specs.Located.{shares}
+use Rattle.places.specs.Places.{o123, o132, o213, o231, o312, o321}
+use Rattle.places.proofs.Orders.{ordered, is-123, is-132, is-312, is-213, is-231, is-321}
+use Rattle.places.proofs.places.put_in_order.Statement.{statement}
+use Rattle.places.proofs.places.put_in_order.Tie as tie
 
 mul-t8 : tie.Need-mul-t8
 mul-t8 c = search needs

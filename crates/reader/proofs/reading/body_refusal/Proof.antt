@@ -1,4 +1,4 @@
--- `netfile::reading::body_refusal` meets its contract.
+-- `reader::reading::body_refusal` meets its contract.
 use mathlib.Core.Path.{ap, _∙_}
 use mathlib.Core.List.{List}
 use Prim.Native.Nat.{ℕ, _+_, _*_, _≤_}
@@ -8,12 +8,12 @@ use borrow.Author.Needs.{needs}
 use Rattle.exact.specs.Filling.{runs}
 use Rattle.net.specs.TurnedAway.{firstFault}
 use Rattle.net.proofs.Faults.{Clear, fault-after}
-use Rattle.netfile.specs.NetFile.{fromPoint}
-use Rattle.netfile.specs.TurnedAway.{pointFaults, endFaults}
-use Rattle.netfile.proofs.Parsing.{refuses, passes, part-from}
-use Rattle.netfile.proofs.ReadLaws.{points-there, points-numbered}
-use Rattle.netfile.proofs.reading.body_refusal.Statement.{statement}
-use Rattle.netfile.proofs.reading.body_refusal.Tie as tie
+use Rattle.words.specs.NetFile.{fromPoint}
+use Rattle.reader.specs.TurnedAway.{pointFaults, endFaults}
+use Rattle.reader.proofs.Parsing.{refuses, passes, part-from}
+use Rattle.reader.proofs.ReadLaws.{points-there, points-numbered}
+use Rattle.reader.proofs.reading.body_refusal.Statement.{statement}
+use Rattle.reader.proofs.reading.body_refusal.Tie as tie
 
 -- the control points have no fault
 module _ (c : tie.Else1) where

@@ -1,4 +1,4 @@
--- `netfile::reading::end_refusal` meets its contract.
+-- `reader::reading::end_refusal` meets its contract.
 use mathlib.Core.Path.{_≡_, refl, sym, ap, _∙_}
 use mathlib.Core.Bool.{true, false, not}
 use mathlib.Core.List.{List, [], _∷_}
@@ -9,12 +9,12 @@ use borrow.Author.Needs.{needs}
 use borrow.Author.Tests.{lt-ltb, le-ltb, eq-eqb, ne-eqb}
 use Rattle.net.specs.TurnedAway.{Fault}
 use Rattle.net.proofs.Faults.{Clear, cond-true, cond-false, fault-after}
-use Rattle.netfile.specs.NetFile.{payloadOf, firstWord, endKind}
-use Rattle.netfile.specs.TurnedAway.{wordFaults}
-use Rattle.netfile.specs.Answers.{wordTold}
-use Rattle.netfile.proofs.Parsing.{parsed, refused, word-numbered}
-use Rattle.netfile.proofs.reading.end_refusal.Statement.{statement}
-use Rattle.netfile.proofs.reading.end_refusal.Tie as tie
+use Rattle.words.specs.NetFile.{payloadOf, firstWord, endKind}
+use Rattle.words.specs.TurnedAway.{wordFaults}
+use Rattle.words.specs.Answers.{wordTold}
+use Rattle.reader.proofs.Parsing.{parsed, refused, word-numbered}
+use Rattle.reader.proofs.reading.end_refusal.Statement.{statement}
+use Rattle.reader.proofs.reading.end_refusal.Tie as tie
 
 -- what is looked for in a word of the end's kind
 abbrev atEnd : List ℕ → List Fault

@@ -1,13 +1,13 @@
--- `netfile::reading::first_point` meets its contract.
+-- `reader::reading::first_point` meets its contract.
 use mathlib.Core.Path.{ap, _∙_}
 use mathlib.Core.List.{[], _∷_}
 use mir.Syntax.{w32}
 use borrow.Author.Needs.{needs}
 use Rattle.exact.proofs.SignedCode.{reads-as}
-use Rattle.netfile.specs.NetFile.{firstNumber, firstPoint}
-use Rattle.netfile.proofs.Parsing.{part-from}
-use Rattle.netfile.proofs.reading.first_point.Statement.{statement}
-use Rattle.netfile.proofs.reading.first_point.Tie as tie
+use Rattle.words.specs.NetFile.{firstNumber, firstPoint}
+use Rattle.reader.proofs.Parsing.{part-from}
+use Rattle.reader.proofs.reading.first_point.Statement.{statement}
+use Rattle.reader.proofs.reading.first_point.Tie as tie
 
 first-number-requires : tie.Need-first-number-requires
 first-number-requires c κs = search needs

@@ -1,4 +1,4 @@
--- `netfile::reading::load_points` meets its contract: each turn stores one control point more.
+-- `reader::reading::load_points` meets its contract: each turn stores one control point more.
 use mathlib.Core.Path.{_≡_, refl, ap, _∙_}
 use Prim.Native.Nat.{ℕ, _+_, _-_, _*_, _≤_}
 use native.Mathlib.Omega.{arith}
@@ -8,10 +8,10 @@ use lib.Seq.{sets}
 use borrow.Author.Needs.{needs}
 use Rattle.exact.specs.Filling.{runs, over}
 use Rattle.exact.proofs.FillingLaws.{over-none, over-more}
-use Rattle.netfile.specs.NetFile.{firstPoint, fromPoint}
-use Rattle.netfile.proofs.Parsing.{part-from}
-use Rattle.netfile.proofs.reading.load_points.Statement.{statement}
-use Rattle.netfile.proofs.reading.load_points.Tie as tie
+use Rattle.words.specs.NetFile.{firstPoint, fromPoint}
+use Rattle.reader.proofs.Parsing.{part-from}
+use Rattle.reader.proofs.reading.load_points.Statement.{statement}
+use Rattle.reader.proofs.reading.load_points.Tie as tie
 
 abbrev Inv-loop : tie.InvT-loop
 Inv-loop file n net₀ i₀ net i = (i ≤ n) × (length net ≡ length net₀) × (net ≡ over (runs i (λ j. firstPoint (fromPoint file j))) net₀)

@@ -1,4 +1,4 @@
--- `netfile::reading::number_refusal` meets its contract.
+-- `reader::reading::number_refusal` meets its contract.
 use mathlib.Core.Path.{_≡_, refl, sym, ap, _∙_}
 use mathlib.Core.List.{List, [], _∷_}
 use Prim.Native.Nat.{ℕ}
@@ -9,13 +9,13 @@ use borrow.Author.Needs.{needs}
 use Rattle.exact.proofs.SignedCode.{reads-as}
 use Rattle.net.specs.TurnedAway.{beyond}
 use Rattle.net.proofs.Faults.{Clear, cond-true, cond-false, fault-after}
-use Rattle.netfile.specs.NetFile.{payloadOf, signed, firstWord, firstNumber}
-use Rattle.netfile.specs.TurnedAway.{wordFaults}
-use Rattle.netfile.specs.Answers.{wordTold}
-use Rattle.netfile.proofs.WordLaws.{payload-small}
-use Rattle.netfile.proofs.Parsing.{parsed, refused, word-numbered}
-use Rattle.netfile.proofs.reading.number_refusal.Statement.{statement}
-use Rattle.netfile.proofs.reading.number_refusal.Tie as tie
+use Rattle.words.specs.NetFile.{payloadOf, signed, firstWord, firstNumber}
+use Rattle.words.specs.TurnedAway.{wordFaults}
+use Rattle.words.specs.Answers.{wordTold}
+use Rattle.words.proofs.WordLaws.{payload-small}
+use Rattle.reader.proofs.Parsing.{parsed, refused, word-numbered}
+use Rattle.reader.proofs.reading.number_refusal.Statement.{statement}
+use Rattle.reader.proofs.reading.number_refusal.Tie as tie
 
 -- the word was there, of its kind
 module _ (c : tie.After-known-told) where

@@ -1,4 +1,4 @@
--- `netfile::reading::parse_head` meets its contract.
+-- `reader::reading::parse_head` meets its contract.
 use mathlib.Core.Path.{_≡_, sym, ap, _∙_}
 use mathlib.Core.Bool.{_||_}
 use mathlib.Core.List.{List, [], _∷_, _++_}
@@ -10,12 +10,12 @@ use borrow.Author.Tests.{ltb-false}
 use Rattle.net.specs.TurnedAway.{firstFault, badSide}
 use Rattle.net.specs.Net.{numbers}
 use Rattle.net.proofs.Faults.{Clear, fault-after, refused-answer, or-no}
-use Rattle.netfile.specs.NetFile.{payloadOf, firstWord, widthKind, heightKind, fileWidth, fileHeight}
-use Rattle.netfile.specs.TurnedAway.{sideFaults, headFaults, shortFor}
-use Rattle.netfile.specs.Answers.{answer, wordTold}
-use Rattle.netfile.proofs.Parsing.{parsed, refused, side-numbered, part-from}
-use Rattle.netfile.proofs.reading.parse_head.Statement.{statement}
-use Rattle.netfile.proofs.reading.parse_head.Tie as tie
+use Rattle.words.specs.NetFile.{payloadOf, firstWord, widthKind, heightKind, fileWidth, fileHeight}
+use Rattle.words.specs.Answers.{answer, wordTold}
+use Rattle.reader.specs.TurnedAway.{sideFaults, headFaults, shortFor}
+use Rattle.reader.proofs.Parsing.{parsed, refused, side-numbered, part-from}
+use Rattle.reader.proofs.reading.parse_head.Statement.{statement}
+use Rattle.reader.proofs.reading.parse_head.Tie as tie
 
 -- what was told of the part from the second word on
 told : (l : List ℕ) {r : ℕ × List ℕ} →

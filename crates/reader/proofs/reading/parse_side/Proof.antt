@@ -1,4 +1,4 @@
--- `netfile::reading::parse_side` meets its contract.
+-- `reader::reading::parse_side` meets its contract.
 use mathlib.Core.Path.{_≡_, refl, sym, ap, _∙_}
 use mathlib.Core.Bool.{true, false}
 use mathlib.Core.List.{List, [], _∷_}
@@ -7,12 +7,13 @@ use native.Mathlib.Omega.{arith}
 use borrow.Author.Needs.{needs}
 use Rattle.net.specs.TurnedAway.{firstFault, badSide}
 use Rattle.net.proofs.Faults.{Clear, cond-true, cond-false, fault-after, accepted-answer, refused-answer}
-use Rattle.netfile.specs.NetFile.{payloadOf, firstWord}
-use Rattle.netfile.specs.TurnedAway.{wordFaults, sideFaults}
-use Rattle.netfile.specs.Answers.{wordTold}
-use Rattle.netfile.proofs.Parsing.{parsed, refused, word-numbered}
-use Rattle.netfile.proofs.reading.parse_side.Statement.{statement}
-use Rattle.netfile.proofs.reading.parse_side.Tie as tie
+use Rattle.words.specs.NetFile.{payloadOf, firstWord}
+use Rattle.words.specs.TurnedAway.{wordFaults}
+use Rattle.words.specs.Answers.{wordTold}
+use Rattle.reader.specs.TurnedAway.{sideFaults}
+use Rattle.reader.proofs.Parsing.{parsed, refused, word-numbered}
+use Rattle.reader.proofs.reading.parse_side.Statement.{statement}
+use Rattle.reader.proofs.reading.parse_side.Tie as tie
 
 -- the word was there, of its kind
 module _ (c : tie.After-parsed) where

@@ -1,4 +1,4 @@
--- `netfile::reading::point_refusal` meets its contract.
+-- `reader::reading::point_refusal` meets its contract.
 use mathlib.Core.Path.{_≡_, ap, _∙_}
 use mathlib.Core.List.{List, _++_}
 use Prim.Native.Nat.{ℕ, _-_, _≤_}
@@ -8,11 +8,11 @@ use borrow.Author.Needs.{needs}
 use borrow.Author.Tests.{ltb-false}
 use Rattle.net.specs.TurnedAway.{Fault, firstFault}
 use Rattle.net.proofs.Faults.{Clear, fault-after}
-use Rattle.netfile.specs.TurnedAway.{numberFaults}
-use Rattle.netfile.specs.NetFile.{xKind, yKind, zKind}
-use Rattle.netfile.proofs.Parsing.{refuses, passes, number-numbered, part-from}
-use Rattle.netfile.proofs.reading.point_refusal.Statement.{statement}
-use Rattle.netfile.proofs.reading.point_refusal.Tie as tie
+use Rattle.words.specs.NetFile.{xKind, yKind, zKind}
+use Rattle.reader.specs.TurnedAway.{numberFaults}
+use Rattle.reader.proofs.Parsing.{refuses, passes, number-numbered, part-from}
+use Rattle.reader.proofs.reading.point_refusal.Statement.{statement}
+use Rattle.reader.proofs.reading.point_refusal.Tie as tie
 
 -- the faults of the second and the third word
 abbrev afterX : List ℕ → List Fault

@@ -1,4 +1,4 @@
--- `netfile::reading::points_refusal` meets its contract: where the file ends in a control point, that one is refused.
+-- `reader::reading::points_refusal` meets its contract: where the file ends in a control point, that one is refused.
 use mathlib.Core.Path.{_≡_, sym, ap, _∙_}
 use mathlib.Core.List.{List}
 use Prim.Native.Nat.{ℕ, _+_, _-_, _*_, _/_, _<_, min}
@@ -8,12 +8,12 @@ use borrow.Author.Needs.{needs}
 use Rattle.exact.specs.Filling.{runs}
 use Rattle.net.specs.TurnedAway.{Fault, firstFault}
 use Rattle.net.proofs.Faults.{fault-in-front, fault-in-runs}
-use Rattle.netfile.specs.NetFile.{fromPoint}
-use Rattle.netfile.specs.TurnedAway.{pointFaults}
-use Rattle.netfile.proofs.Parsing.{passes, point-numbered, point-long, part-from}
-use Rattle.netfile.proofs.ReadLaws.{points-numbered}
-use Rattle.netfile.proofs.reading.points_refusal.Statement.{statement}
-use Rattle.netfile.proofs.reading.points_refusal.Tie as tie
+use Rattle.words.specs.NetFile.{fromPoint}
+use Rattle.reader.specs.TurnedAway.{pointFaults}
+use Rattle.reader.proofs.Parsing.{passes, point-numbered, point-long, part-from}
+use Rattle.reader.proofs.ReadLaws.{points-numbered}
+use Rattle.reader.proofs.reading.points_refusal.Statement.{statement}
+use Rattle.reader.proofs.reading.points_refusal.Tie as tie
 
 -- the control points that are whole were looked through
 module _ (c : tie.After-whole-points-refusal) where

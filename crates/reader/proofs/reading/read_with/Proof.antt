@@ -1,4 +1,4 @@
--- `netfile::reading::read_with` meets its contract.
+-- `reader::reading::read_with` meets its contract.
 use mathlib.Core.Path.{_≡_, sym, ap, _∙_}
 use mathlib.Core.Bool.{Bool, _||_}
 use mathlib.Core.List.{List, [], _∷_}
@@ -11,12 +11,12 @@ use Rattle.exact.specs.Filling.{runs, over}
 use Rattle.net.specs.TurnedAway.{firstFault}
 use Rattle.net.proofs.Places.{good-size, few-vertices}
 use Rattle.net.proofs.Faults.{Clear, none-clear, clear-parts}
-use Rattle.netfile.specs.NetFile.{firstPoint, fromPoint, fileWidth, fileHeight, points}
-use Rattle.netfile.specs.TurnedAway.{pointFaults, endFaults, headFaults, bodyFaults, shortFor}
-use Rattle.netfile.specs.Answers.{readTold}
-use Rattle.netfile.proofs.ReadLaws.{GoodHead, good-head, points-there, body-numbered, head-found, head-refused, body-refused, taken}
-use Rattle.netfile.proofs.reading.read_with.Statement.{statement}
-use Rattle.netfile.proofs.reading.read_with.Tie as tie
+use Rattle.words.specs.NetFile.{firstPoint, fromPoint, fileWidth, fileHeight, points}
+use Rattle.reader.specs.TurnedAway.{pointFaults, endFaults, headFaults, bodyFaults, shortFor}
+use Rattle.reader.specs.Answers.{readTold}
+use Rattle.reader.proofs.ReadLaws.{GoodHead, good-head, points-there, body-numbered, head-found, head-refused, body-refused, taken}
+use Rattle.reader.proofs.reading.read_with.Statement.{statement}
+use Rattle.reader.proofs.reading.read_with.Tie as tie
 
 -- the first two words were taken
 module _ (c : tie.After-known-told) where

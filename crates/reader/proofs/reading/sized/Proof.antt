@@ -1,4 +1,4 @@
--- `netfile::reading::sized` meets its contract.
+-- `reader::reading::sized` meets its contract.
 use mathlib.Core.Path.{refl, sym}
 use mathlib.Core.List.{[], _∷_}
 use Prim.Native.Nat.{_*_, _≤_}
@@ -6,8 +6,8 @@ use native.Mathlib.Omega.{arith}
 use borrow.Author.Tests.{lt-ltb, le-ltb}
 use Rattle.net.proofs.Places.{good-size, few-vertices}
 use Rattle.net.proofs.Faults.{cond-true, cond-false, accepted-answer, refused-answer, or-no, or-yes}
-use Rattle.netfile.proofs.reading.sized.Statement.{statement}
-use Rattle.netfile.proofs.reading.sized.Tie as tie
+use Rattle.reader.proofs.reading.sized.Statement.{statement}
+use Rattle.reader.proofs.reading.sized.Tie as tie
 
 few : (c : tie.Start) → c .args .w * c .args .h ≤ 1050625
 few c = few-vertices (good-size (c .args .w) (c .args .h) (c .pre))

@@ -1,4 +1,4 @@
--- `netfile::reading::whole_points_refusal` meets its contract: the control points before i have no fault.
+-- `reader::reading::whole_points_refusal` meets its contract: the control points before i have no fault.
 use mathlib.Core.Path.{_≡_, sym, ap, _∙_, subst}
 use mathlib.Core.List.{List}
 use Prim.Native.Nat.{ℕ, _+_, _-_, _*_, _≤_, _<_}
@@ -9,11 +9,11 @@ use Rattle.exact.specs.Filling.{runs}
 use Rattle.exact.proofs.FillingLaws.{runs-suc}
 use Rattle.net.specs.TurnedAway.{Fault, firstFault}
 use Rattle.net.proofs.Faults.{Clear, clear-none, clear-append, fault-in-runs}
-use Rattle.netfile.specs.NetFile.{fromPoint}
-use Rattle.netfile.specs.TurnedAway.{pointFaults}
-use Rattle.netfile.proofs.Parsing.{passes, point-numbered, point-within}
-use Rattle.netfile.proofs.reading.whole_points_refusal.Statement.{statement}
-use Rattle.netfile.proofs.reading.whole_points_refusal.Tie as tie
+use Rattle.words.specs.NetFile.{fromPoint}
+use Rattle.reader.specs.TurnedAway.{pointFaults}
+use Rattle.reader.proofs.Parsing.{passes, point-numbered, point-within}
+use Rattle.reader.proofs.reading.whole_points_refusal.Statement.{statement}
+use Rattle.reader.proofs.reading.whole_points_refusal.Tie as tie
 
 abbrev Inv-loop : tie.InvT-loop
 Inv-loop file n i₀ i = (i ≤ n) × Clear (runs i (λ j. pointFaults (fromPoint file j)))

@@ -3,8 +3,9 @@ use mathlib.Core.Path.{sym, subst}
 use Prim.Native.Nat.{ℕ, _*_, _≤_}
 use native.Mathlib.Omega.{arith}
 use lib.Dec.{ltb}
-use Rattle.refine.specs.Steps.{Depth}
-use Rattle.refine.proofs.Sides.{good-depth, wide-ready, high-ready, few-after}
+use Rattle.steps.specs.Steps.{Depth}
+use Rattle.steps.proofs.Sides.{wide-ready, high-ready, few-after}
+use Rattle.refine.proofs.Depths.{good-depth}
 use Rattle.refine.proofs.depth.shorter_than.Statement.{statement}
 use Rattle.refine.proofs.depth.shorter_than.Tie as tie
 

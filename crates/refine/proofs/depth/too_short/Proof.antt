@@ -6,8 +6,9 @@ use lib.Dec.{ltb}
 use borrow.Author.Needs.{needs}
 use borrow.Author.Tests.{lt-ltb, le-ltb}
 use Rattle.net.proofs.Faults.{or-yes, or-no, cond-true, cond-false}
-use Rattle.refine.specs.RefinedNet.{numbersAfter, scratchNeed}
-use Rattle.refine.proofs.Sides.{good-depth, shallower, not-deep}
+use Rattle.steps.specs.RefinedNet.{numbersAfter, scratchNeed}
+use Rattle.steps.proofs.Sides.{shallower}
+use Rattle.refine.proofs.Depths.{good-depth, not-deep}
 use Rattle.refine.proofs.depth.too_short.Statement.{statement}
 use Rattle.refine.proofs.depth.too_short.Tie as tie
 

@@ -6,9 +6,9 @@ use lib.IntN.{ℤ}
 use lib.ListN.{length}
 use borrow.Author.Needs.{needs}
 use borrow.Author.Tests.{ltb-false}
-use Rattle.refine.specs.RefinedNet.{refinedNet}
+use Rattle.steps.specs.RefinedNet.{refinedNet}
 use Rattle.refine.specs.Answers.{refusalOf}
-use Rattle.refine.proofs.RefinedPoints.{Taken, refine-taken}
+use Rattle.refine.proofs.Taken.{Taken, refine-taken}
 use Rattle.refine.proofs.CallLaws.{left-accepted, left-refused, carried-out, not-carried-out}
 use Rattle.refine.proofs.refining.refine.Statement.{statement}
 use Rattle.refine.proofs.refining.refine.Tie as tie

@@ -1,4 +1,4 @@
--- `refine::points::off_grid` meets its contract.
+-- `refined_points::points::off_grid` meets its contract.
 use mathlib.Core.Path.{sym, _∙_}
 use Prim.Native.Nat.{_-_, _*_}
 use native.Mathlib.Omega.{arith}
@@ -6,10 +6,11 @@ use lib.Dec.{ltb}
 use borrow.Author.Tests.{lt-ltb, le-ltb}
 use Rattle.net.proofs.Faults.{or-yes, or-no}
 use Rattle.subdivision.specs.Refinement.{sideAfter}
-use Rattle.refine.specs.Steps.{Depth}
-use Rattle.refine.proofs.Sides.{good-depth, wide-ready, high-ready, side-grows}
-use Rattle.refine.proofs.points.off_grid.Statement.{statement}
-use Rattle.refine.proofs.points.off_grid.Tie as tie
+use Rattle.steps.specs.Steps.{Depth}
+use Rattle.steps.proofs.Sides.{wide-ready, high-ready, side-grows}
+use Rattle.refine.proofs.Depths.{good-depth}
+use Rattle.refined_points.proofs.points.off_grid.Statement.{statement}
+use Rattle.refined_points.proofs.points.off_grid.Tie as tie
 
 depth : (c : tie.Start) → Depth (c .args .w) (c .args .h) (c .args .k)
 depth c = good-depth (c .args .w) (c .args .h) (c .args .k) (c .pre .0) (c .pre .1)

@@ -1,8 +1,8 @@
--- `refine::points::refined_point` meets its contract.
+-- `refined_points::points::refined_point` meets its contract.
 use borrow.Author.Needs.{needs}
-use Rattle.refine.proofs.RefinedPoints.{answer-claimed}
-use Rattle.refine.proofs.points.refined_point.Statement.{statement}
-use Rattle.refine.proofs.points.refined_point.Tie as tie
+use Rattle.refined_points.proofs.RefinedPoints.{answer-claimed}
+use Rattle.refined_points.proofs.points.refined_point.Statement.{statement}
+use Rattle.refined_points.proofs.points.refined_point.Tie as tie
 
 refined-point-with-requires : tie.Need-refined-point-with-requires
 refined-point-with-requires c κs = search needs

@@ -1,4 +1,4 @@
--- `refine::points::refined_point_with` meets its contract.
+-- `refined_points::points::refined_point_with` meets its contract.
 use mathlib.Core.Path.{_≡_, sym, _∙_}
 use mathlib.Core.Bool.{false}
 use mathlib.Core.List.{List}
@@ -8,16 +8,17 @@ use lib.ListN.{length}
 use borrow.Author.Needs.{needs}
 use borrow.Author.Tests.{ltb-false}
 use Rattle.net.proofs.Faults.{accepted-answer, refused-answer}
-use Rattle.surface.specs.SurfacePoint.{OnGrid}
+use Rattle.places.specs.Places.{OnGrid}
 use Rattle.surface.specs.Answers.{pointAnswer}
 use Rattle.subdivision.specs.Refinement.{sideAfter}
-use Rattle.refine.specs.RefinedNet.{refinedNet}
-use Rattle.refine.specs.Answers.{refusalAt, refinedSurfacePoint}
-use Rattle.refine.proofs.Sides.{wide-ready, high-ready}
-use Rattle.refine.proofs.RefinedPoints.{Taken, point-taken, point-answered, point-of-refined}
+use Rattle.steps.specs.RefinedNet.{refinedNet}
+use Rattle.steps.proofs.Sides.{wide-ready, high-ready}
+use Rattle.refine.proofs.Taken.{Taken}
 use Rattle.refine.proofs.CallLaws.{left-accepted, left-refused}
-use Rattle.refine.proofs.points.refined_point_with.Statement.{statement}
-use Rattle.refine.proofs.points.refined_point_with.Tie as tie
+use Rattle.refined_points.specs.Answers.{refusalAt, refinedSurfacePoint}
+use Rattle.refined_points.proofs.RefinedPoints.{point-taken, point-answered, point-of-refined}
+use Rattle.refined_points.proofs.points.refined_point_with.Statement.{statement}
+use Rattle.refined_points.proofs.points.refined_point_with.Tie as tie
 
 abbrev refusal : tie.Start → ℕ
 refusal s =

@@ -1,4 +1,4 @@
--- `refine::points::refusal_at` meets its contract.
+-- `refined_points::points::refusal_at` meets its contract.
 use mathlib.Core.Path.{sym, _∙_}
 use mathlib.Core.Bool.{_||_}
 use mathlib.Core.List.{List, _∷_}
@@ -6,9 +6,10 @@ use lib.Dec.{lit<}
 use borrow.Author.Needs.{needs}
 use Rattle.net.specs.TurnedAway.{Fault}
 use Rattle.net.proofs.Faults.{Clear, none-clear, fault-before, fault-after, cond-true, cond-false}
-use Rattle.refine.specs.TurnedAway.{tooShort, sizeFaults, netFaults, offGrid}
-use Rattle.refine.proofs.points.refusal_at.Statement.{statement}
-use Rattle.refine.proofs.points.refusal_at.Tie as tie
+use Rattle.refine.specs.TurnedAway.{tooShort, sizeFaults, netFaults}
+use Rattle.refined_points.specs.TurnedAway.{offGrid}
+use Rattle.refined_points.proofs.points.refusal_at.Statement.{statement}
+use Rattle.refined_points.proofs.points.refusal_at.Tie as tie
 
 -- the faults after 1 and 4
 abbrev rest : tie.Start → List Fault

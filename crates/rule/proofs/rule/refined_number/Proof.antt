@@ -1,4 +1,4 @@
--- `subdivision::rule::refined_number` meets its contract: the mean lies in the range of the values, whatever i32s they are.
+-- `rule::rule::refined_number` meets its contract: the mean lies in the range of the values, whatever i32s they are.
 use mathlib.Core.Bool.{true}
 use mathlib.Core.List.{List, [], _∷_, map}
 use mathlib.Core.Path.{_≡_, sym, ap, subst, _∙_}
@@ -23,10 +23,10 @@ use Rattle.exact.proofs.RoundingLaws.{mean-range}
 use Rattle.exact.proofs.SignedCode.{reads-back, reads-as}
 use Rattle.exact.proofs.Sizes.{fits-low, fits-high, fits-between}
 use Rattle.exact.proofs.WeightedSumLaws.{AllBetween, all-in-range, within-more}
 use Rattle.subdivision.specs.WeightTable.{sum, goodRow}
 use Rattle.subdivision.proofs.Tables.{good-length, good-sum, total-sum, not-negative}
-use Rattle.subdivision.proofs.rule.refined_number.Statement.{statement}
-use Rattle.subdivision.proofs.rule.refined_number.Tie as tie
+use Rattle.rule.proofs.rule.refined_number.Statement.{statement}
+use Rattle.rule.proofs.rule.refined_number.Tie as tie
 
 -- no weight is above the sum of a row
 within-sum : (row : List ℕ) → Within (sum row) (map pos row)

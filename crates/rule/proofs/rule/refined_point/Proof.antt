@@ -1,4 +1,4 @@
--- `subdivision::rule::refined_point` meets its contract.
+-- `rule::rule::refined_point` meets its contract.
 use mathlib.Core.List.{List, [], _∷_, map}
 use mathlib.Core.Path.{_≡_, ap, _∙_}
 use Prim.Native.Nat.{ℕ, _<_, _^_}
@@ -10,8 +10,8 @@ use borrow.Author.Needs.{needs}
 use Rattle.exact.specs.Rounding.{rounded}
 use Rattle.exact.specs.WeightedSum.{weightedSum}
 use Rattle.exact.proofs.SignedCode.{reads-as}
-use Rattle.subdivision.proofs.rule.refined_point.Statement.{statement}
-use Rattle.subdivision.proofs.rule.refined_point.Tie as tie
+use Rattle.rule.proofs.rule.refined_point.Statement.{statement}
+use Rattle.rule.proofs.rule.refined_point.Tie as tie
 
 -- what a call of `refined_number` gave, read back, of the values that a call of `values_at` gave
 number : (r : ℤ) (row : List ℕ) {vs us : List ℤ} → mag r < 2 ^ 31 → r ≡ rounded (weightedSum (map pos row) vs) 12 → vs ≡ us →

@@ -1,13 +1,13 @@
--- `subdivision::rule::refined_triangle` meets its contract.
+-- `rule::rule::refined_triangle` meets its contract.
 use mathlib.Core.Bool.{true}
 use mathlib.Core.List.{[], _∷_}
 use mathlib.Core.Path.{_≡_}
 use borrow.Author.Needs.{needs}
 use Rattle.net.specs.Net.{Index, one, two, three}
 use Rattle.subdivision.specs.WeightTable.{goodRow, refinedTriangle}
 use Rattle.subdivision.proofs.Tables.{rowAt, row-passes}
-use Rattle.subdivision.proofs.rule.refined_triangle.Statement.{statement}
-use Rattle.subdivision.proofs.rule.refined_triangle.Tie as tie
+use Rattle.rule.proofs.rule.refined_triangle.Statement.{statement}
+use Rattle.rule.proofs.rule.refined_triangle.Tie as tie
 
 -- the table passes, and so does each row that is handed on
 good : (c : tie.Start) (l : Index) → goodRow (rowAt (c .args .t1) (c .args .kind) l) ≡ true

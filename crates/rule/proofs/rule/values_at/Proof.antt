@@ -1,11 +1,11 @@
--- `subdivision::rule::values_at` meets its contract.
+-- `rule::rule::values_at` meets its contract.
 use mathlib.Core.List.{[], _∷_}
 use mir.Syntax.{w32}
 use borrow.Author.Needs.{needs}
 use Rattle.exact.proofs.SignedCode.{reads-back}
 use Rattle.net.specs.Net.{one, two, three, entry}
-use Rattle.subdivision.proofs.rule.values_at.Statement.{statement}
-use Rattle.subdivision.proofs.rule.values_at.Tie as tie
+use Rattle.rule.proofs.rule.values_at.Statement.{statement}
+use Rattle.rule.proofs.rule.values_at.Tie as tie
 
 mul-t8 : tie.Need-mul-t8
 mul-t8 c = search needs

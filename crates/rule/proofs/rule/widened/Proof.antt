@@ -1,4 +1,4 @@
--- `subdivision::rule::widened` meets its contract.
+-- `rule::rule::widened` meets its contract.
 use mathlib.Core.List.{[], _∷_, map}
 use mathlib.Core.Path.{_≡_, ap, _∙_}
 use Prim.Native.Nat.{ℕ}
@@ -12,8 +12,8 @@ use borrow.Author.Needs.{needs}
 use Rattle.exact.specs.Filling.{runs}
 use Rattle.exact.proofs.FillingLaws.{array-elements}
 use Rattle.exact.proofs.Sizes.{fits-of-size}
-use Rattle.subdivision.proofs.rule.widened.Statement.{statement}
-use Rattle.subdivision.proofs.rule.widened.Tie as tie
+use Rattle.rule.proofs.rule.widened.Statement.{statement}
+use Rattle.rule.proofs.rule.widened.Tie as tie
 
 -- each weight is a byte
 module _ (c : tie.Start) (i : ℕ) where

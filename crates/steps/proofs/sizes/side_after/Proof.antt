@@ -1,13 +1,13 @@
--- `refine::depth::side_after` meets its contract.
+-- `steps::depth::side_after` meets its contract.
 use mathlib.Core.Path.{_≡_, refl, ap, _∙_}
 use Prim.Native.Nat.{ℕ, _+_, _-_, _*_, _≤_}
 use native.Mathlib.Numerals.{add-one}
 use native.Mathlib.Omega.{arith}
 use borrow.Author.Needs.{needs}
 use Rattle.subdivision.specs.Refinement.{sideAfter}
-use Rattle.refine.proofs.Sides.{side-small, side-grows}
-use Rattle.refine.proofs.depth.side_after.Statement.{statement}
-use Rattle.refine.proofs.depth.side_after.Tie as tie
+use Rattle.steps.proofs.Sides.{side-small, side-grows}
+use Rattle.steps.proofs.sizes.side_after.Statement.{statement}
+use Rattle.steps.proofs.sizes.side_after.Tie as tie
 
 abbrev Inv-loop : tie.InvT-loop
 Inv-loop n k side₀ i₀ side i = (i ≤ k) × (side ≡ sideAfter i n)

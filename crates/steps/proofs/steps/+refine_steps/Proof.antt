@@ -1,4 +1,4 @@
--- `refine::steps::refine_steps`, which calls itself with one step less, meets its contract.
+-- `steps::steps::refine_steps`, which calls itself with one step less, meets its contract.
 use mathlib.Core.Path.{refl, _∙_}
 use Prim.Native.Nat.{ℕ, _<_, _-_, _≤_}
 use native.Mathlib.Omega.{arith}
@@ -7,16 +7,16 @@ use borrow.Fn.PlainCycle.{Measures, is, falls, and}
 use borrow.Author.Needs.{needs}
 use Rattle.exact.specs.Filling.{over}
 use Rattle.subdivision.specs.Refinement.{sideAfter}
-use Rattle.refine.specs.RefinedNet.{refinedNet}
-use Rattle.refine.proofs.steps.+refine_steps.{statement}
-use Rattle.refine.proofs.steps.+refine_steps.Tie.{close}
-use Rattle.refine.proofs.Sides.{shallower}
-use Rattle.refine.proofs.StepLaws.{scratch-needed, scratch-before, output-after, scratch-after}
-use Rattle.refine.proofs.steps.refine_steps.Reads as refine-steps
-use Rattle.refine.proofs.steps.refine_steps.Kinds as refine-steps-kinds
-use Rattle.refine.proofs.steps.+refine_steps.Lts-refine_steps as refine-steps-lts
-use Rattle.refine.proofs.steps.few_steps.Reads as few-steps-reads
-use Rattle.refine.proofs.steps.last_step.Reads as last-step-reads
+use Rattle.steps.specs.RefinedNet.{refinedNet}
+use Rattle.steps.proofs.Sides.{shallower}
+use Rattle.steps.proofs.StepLaws.{scratch-needed, scratch-before, output-after, scratch-after}
+use Rattle.steps.proofs.steps.+refine_steps.{statement}
+use Rattle.steps.proofs.steps.+refine_steps.Tie.{close}
+use Rattle.steps.proofs.steps.refine_steps.Reads as refine-steps
+use Rattle.steps.proofs.steps.refine_steps.Kinds as refine-steps-kinds
+use Rattle.steps.proofs.steps.+refine_steps.Lts-refine_steps as refine-steps-lts
+use Rattle.steps.proofs.steps.few_steps.Reads as few-steps-reads
+use Rattle.steps.proofs.steps.last_step.Reads as last-step-reads
 
 abbrev μ-refine-steps : Measures 3 refine-steps-kinds.ps ℕ
 μ-refine-steps κs a = a .1 .1 .1 .0

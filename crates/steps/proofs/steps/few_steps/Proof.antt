@@ -1,4 +1,4 @@
--- `refine::steps::few_steps` meets its contract.
+-- `steps::steps::few_steps` meets its contract.
 use mathlib.Core.Path.{_≡_, ap, subst, _∙_}
 use mathlib.Core.List.{List}
 use Prim.Native.Nat.{ℕ, _≤_, _-_}
@@ -8,11 +8,11 @@ use lib.ListN.{length, length-take, take}
 use borrow.Author.Needs.{needs}
 use Rattle.exact.specs.Filling.{over}
 use Rattle.net.specs.Net.{numbers}
-use Rattle.refine.specs.RefinedNet.{refinedNet, numbersAfter}
-use Rattle.refine.specs.Steps.{Depth}
-use Rattle.refine.proofs.StepLaws.{copied}
-use Rattle.refine.proofs.steps.few_steps.Statement.{statement}
-use Rattle.refine.proofs.steps.few_steps.Tie as tie
+use Rattle.steps.specs.RefinedNet.{refinedNet, numbersAfter}
+use Rattle.steps.specs.Steps.{Depth}
+use Rattle.steps.proofs.StepLaws.{copied}
+use Rattle.steps.proofs.steps.few_steps.Statement.{statement}
+use Rattle.steps.proofs.steps.few_steps.Tie as tie
 
 mul-n : tie.Need-mul-n
 mul-n c = search needs

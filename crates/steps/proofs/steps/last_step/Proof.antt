@@ -1,14 +1,14 @@
--- `refine::steps::last_step` meets its contract.
+-- `steps::steps::last_step` meets its contract.
 use mathlib.Core.Path.{sym, subst, _∙_}
 use Prim.Native.Nat.{ℕ}
 use borrow.Author.Needs.{needs}
 use Rattle.exact.specs.Filling.{over}
-use Rattle.refine.specs.RefinedNet.{refinedNet}
-use Rattle.refine.specs.Steps.{StepReady}
-use Rattle.refine.proofs.Sides.{wide-ready, high-ready, shallower}
-use Rattle.refine.proofs.StepLaws.{last-ready}
-use Rattle.refine.proofs.steps.last_step.Statement.{statement}
-use Rattle.refine.proofs.steps.last_step.Tie as tie
+use Rattle.steps.specs.RefinedNet.{refinedNet}
+use Rattle.steps.specs.Steps.{StepReady}
+use Rattle.steps.proofs.Sides.{wide-ready, high-ready, shallower}
+use Rattle.steps.proofs.StepLaws.{last-ready}
+use Rattle.steps.proofs.steps.last_step.Statement.{statement}
+use Rattle.steps.proofs.steps.last_step.Tie as tie
 
 sub-side-after : tie.Need-sub-side-after
 sub-side-after c = search needs

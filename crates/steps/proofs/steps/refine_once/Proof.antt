@@ -1,4 +1,4 @@
--- `refine::steps::refine_once` meets its contract.
+-- `steps::steps::refine_once` meets its contract.
 use mathlib.Core.Path.{_≡_, refl, ap, _∙_}
 use Prim.Native.Nat.{ℕ, _+_, _-_, _*_, _≤_}
 use native.Mathlib.Nat.{mul-assoc, mul-comm, mul-le-mul, le-refl}
@@ -9,10 +9,10 @@ use borrow.Author.Needs.{needs}
 use Rattle.exact.specs.Filling.{over, runs}
 use Rattle.exact.proofs.FillingLaws.{over-none, over-more}
 use Rattle.subdivision.specs.Refinement.{refinedSide}
-use Rattle.refine.specs.RefinedNet.{refinedFields, rowRun, stored, refinedNet}
-use Rattle.refine.proofs.StoredNets.{row-length}
-use Rattle.refine.proofs.steps.refine_once.Statement.{statement}
-use Rattle.refine.proofs.steps.refine_once.Tie as tie
+use Rattle.steps.specs.RefinedNet.{refinedFields, rowRun, stored, refinedNet}
+use Rattle.steps.proofs.StoredNets.{row-length}
+use Rattle.steps.proofs.steps.refine_once.Statement.{statement}
+use Rattle.steps.proofs.steps.refine_once.Tie as tie
 
 abbrev Inv-loop : tie.InvT-loop
 Inv-loop net w h out₀ high j₀ out j = (j ≤ high) × (length out ≡ length out₀) × (out ≡ over (runs j (rowRun (refinedFields net w) (refinedSide w))) out₀)

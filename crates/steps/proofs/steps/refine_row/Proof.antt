@@ -1,4 +1,4 @@
--- `refine::steps::refine_row` meets its contract.
+-- `steps::steps::refine_row` meets its contract.
 use mathlib.Core.Path.{_≡_, refl, ap, _∙_}
 use Prim.Native.Nat.{ℕ, _+_, _-_, _*_, _/_, _≤_}
 use native.Mathlib.Nat.{mul-comm, mul-le-mul}
@@ -11,10 +11,10 @@ use Rattle.exact.proofs.FillingLaws.{runs-none, runs-more}
 use Rattle.net.specs.Net.{vertexAt}
 use Rattle.net.proofs.Places.{vertex-ends}
 use Rattle.subdivision.specs.Refinement.{refinedSide}
-use Rattle.refine.specs.RefinedNet.{refinedFields, vertexRun}
-use Rattle.refine.proofs.RefinedVertices.{stored-controls}
-use Rattle.refine.proofs.steps.refine_row.Statement.{statement}
-use Rattle.refine.proofs.steps.refine_row.Tie as tie
+use Rattle.steps.specs.RefinedNet.{refinedFields, vertexRun}
+use Rattle.steps.proofs.RefinedVertices.{stored-controls}
+use Rattle.steps.proofs.steps.refine_row.Statement.{statement}
+use Rattle.steps.proofs.steps.refine_row.Tie as tie
 
 abbrev Inv-loop : tie.InvT-loop
 Inv-loop net w h j out₀ wide at i₀ out i = (i ≤ wide) × (length out ≡ length out₀) × (out ≡ sets out₀ at (runs i (λ m. vertexRun (refinedFields net w) (vertexAt m j))))

@@ -1,4 +1,4 @@
--- `refine::vertices::refined_vertex` meets its contract.
+-- `steps::vertices::refined_vertex` meets its contract.
 use mathlib.Core.Path.{_∙_}
 use mathlib.Core.Bool.{true, false}
 use Prim.Native.Nat.{ℕ, _+_, _/_, _≤_}
@@ -8,9 +8,9 @@ use lib.ListN.{length}
 use borrow.Author.Needs.{needs}
 use borrow.Author.Tests.{lt-ltb, le-ltb}
 use Rattle.net.specs.Net.{vertexAt, start}
-use Rattle.refine.proofs.RefinedVertices.{ends-before, by-kind, kept-alone}
-use Rattle.refine.proofs.vertices.refined_vertex.Statement.{statement}
-use Rattle.refine.proofs.vertices.refined_vertex.Tie as tie
+use Rattle.steps.proofs.RefinedVertices.{ends-before, by-kind, kept-alone}
+use Rattle.steps.proofs.vertices.refined_vertex.Statement.{statement}
+use Rattle.steps.proofs.vertices.refined_vertex.Tie as tie
 
 -- a vertex that the code reads ends within the net
 ends : (c : tie.Start) (m n : ℕ) → m ≤ (c .args .i + 1) / 2 → n ≤ (c .args .j + 1) / 2 → start (c .args .w) (vertexAt m n) + 9 ≤ length (c .args .net .now)

@@ -1,9 +1,9 @@
--- `refine::vertices::rule_of_kind` meets its contract.
+-- `steps::vertices::rule_of_kind` meets its contract.
 use mathlib.Core.Path.{_∙_}
 use borrow.Author.Needs.{needs}
 use Rattle.subdivision.specs.WeightTable.{refinedTriangle}
-use Rattle.refine.proofs.vertices.rule_of_kind.Statement.{statement}
-use Rattle.refine.proofs.vertices.rule_of_kind.Tie as tie
+use Rattle.steps.proofs.vertices.rule_of_kind.Statement.{statement}
+use Rattle.steps.proofs.vertices.rule_of_kind.Tie as tie
 
 load-requires : tie.Need-load-requires
 load-requires c κs = search needs

@@ -1,12 +1,12 @@
--- `refine::vertices::store_triangle` meets its contract.
+-- `steps::vertices::store_triangle` meets its contract.
 use mathlib.Core.Path.{_∙_}
 use mathlib.Core.List.{[]}
 use Prim.Native.Nat.{_+_}
 use lib.ListN.{getD}
 use lib.Seq.{sets}
 use borrow.Author.Needs.{needs}
-use Rattle.refine.proofs.vertices.store_triangle.Statement.{statement}
-use Rattle.refine.proofs.vertices.store_triangle.Tie as tie
+use Rattle.steps.proofs.vertices.store_triangle.Statement.{statement}
+use Rattle.steps.proofs.vertices.store_triangle.Tie as tie
 
 array-copy-out-store-point : tie.Need-array-copy-out-store-point
 array-copy-out-store-point c = search needs

@@ -2,9 +2,9 @@
 use mathlib.Core.Path.{sym, subst, _∙_}
 use mir.Syntax.{w32}
 use borrow.Author.Needs.{needs}
-use Rattle.exact.proofs.SignedCode.{reads-as}
 use Rattle.exact.specs.WeightedSum.{weightedSum, Within}
 use Rattle.exact.specs.Rounding.{rounded}
+use Rattle.exact.proofs.SignedCode.{reads-as}
 use Rattle.surface.proofs.Evaluation.{parts-within}
 use Rattle.surface.proofs.points.evaluate.Statement.{statement}
 use Rattle.surface.proofs.points.evaluate.Tie as tie

@@ -5,7 +5,7 @@ use mathlib.Core.Path.{sym, ap, _∙_}
 use lib.IntN.{ℤ}
 use borrow.Author.Needs.{needs}
 use Rattle.exact.specs.WeightedSum.{weightedSum}
-use Rattle.surface.specs.Evaluation.{partRows, parts}
+use Rattle.spline.specs.Parts.{partRows, parts}
 use Rattle.surface.proofs.points.parts_of.Statement.{statement}
 use Rattle.surface.proofs.points.parts_of.Tie as tie
 

@@ -1,11 +1,11 @@
--- `surface::triangles::column` meets its contract.
+-- `triangles::triangles::column` meets its contract.
 use mathlib.Core.List.{[], _∷_}
 use mir.Syntax.{w32}
 use borrow.Author.Needs.{needs}
 use Rattle.exact.proofs.SignedCode.{reads-back}
 use Rattle.net.specs.Net.{one, two, three, entry}
-use Rattle.surface.proofs.triangles.column.Statement.{statement}
-use Rattle.surface.proofs.triangles.column.Tie as tie
+use Rattle.triangles.proofs.triangles.column.Statement.{statement}
+use Rattle.triangles.proofs.triangles.column.Tie as tie
 
 mul-t6 : tie.Need-mul-t6
 mul-t6 c = search needs

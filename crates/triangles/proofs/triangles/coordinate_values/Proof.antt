@@ -1,4 +1,4 @@
--- `surface::triangles::coordinate_values` meets its contract.
+-- `triangles::triangles::coordinate_values` meets its contract.
 use mathlib.Core.List.{List, [], _∷_}
 use mathlib.Core.Path.{_≡_, ap}
 use Prim.Native.Nat.{ℕ, _<_, _^_}
@@ -9,8 +9,8 @@ use mir.Val.{toZ, ofZ}
 use mir.Syntax.{w32}
 use borrow.Author.Needs.{needs}
 use Rattle.exact.proofs.SignedCode.{reads-as}
-use Rattle.surface.proofs.triangles.coordinate_values.Statement.{statement}
-use Rattle.surface.proofs.triangles.coordinate_values.Tie as tie
+use Rattle.triangles.proofs.triangles.coordinate_values.Statement.{statement}
+use Rattle.triangles.proofs.triangles.coordinate_values.Tie as tie
 
 -- a number of a column that a call gave, read back
 read : (l : List ℤ) {m : List ℤ} → l ≡ m → (i : ℕ) → mag (getD l i (pos 0)) < 2 ^ 31 → toZ w32 (ofZ w32 (getD l i (pos 0))) ≡ getD m i (pos 0)

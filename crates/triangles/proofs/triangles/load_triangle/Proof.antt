@@ -1,11 +1,11 @@
--- `surface::triangles::load_triangle` meets its contract.
+-- `triangles::triangles::load_triangle` meets its contract.
 use mathlib.Core.Bool.{Bool}
 use mathlib.Core.Path.{sym, ap, _∙_}
 use borrow.Author.Needs.{needs}
 use Rattle.net.specs.Net.{triangleAt}
-use Rattle.surface.specs.Evaluation.{cornerControls}
-use Rattle.surface.proofs.triangles.load_triangle.Statement.{statement}
-use Rattle.surface.proofs.triangles.load_triangle.Tie as tie
+use Rattle.triangles.specs.Corners.{cornerControls}
+use Rattle.triangles.proofs.triangles.load_triangle.Statement.{statement}
+use Rattle.triangles.proofs.triangles.load_triangle.Tie as tie
 
 add-load : tie.Need-add-load
 add-load c = search needs

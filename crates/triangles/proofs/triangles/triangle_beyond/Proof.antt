@@ -1,11 +1,11 @@
--- `surface::triangles::triangle_beyond` meets its contract.
+-- `triangles::triangles::triangle_beyond` meets its contract.
 use mathlib.Core.Bool.{Bool}
 use mathlib.Core.Path.{sym, ap, _∙_}
 use borrow.Author.Needs.{needs}
 use Rattle.net.specs.Net.{triangleAt}
-use Rattle.surface.specs.TurnedAway.{triangleBeyond}
-use Rattle.surface.proofs.triangles.triangle_beyond.Statement.{statement}
-use Rattle.surface.proofs.triangles.triangle_beyond.Tie as tie
+use Rattle.triangles.specs.TurnedAway.{triangleBeyond}
+use Rattle.triangles.proofs.triangles.triangle_beyond.Statement.{statement}
+use Rattle.triangles.proofs.triangles.triangle_beyond.Tie as tie
 
 add-vertices-beyond : tie.Need-add-vertices-beyond
 add-vertices-beyond c = search needs

@@ -1,11 +1,11 @@
--- `surface::triangles::turn` meets its contract.
+-- `triangles::triangles::turn` meets its contract.
 use mathlib.Core.List.{[], _∷_}
 use mathlib.Core.Bool.{Bool}
 use mathlib.Core.Path.{sym, ap, _∙_}
 use borrow.Author.Needs.{needs}
-use Rattle.surface.specs.Evaluation.{turned}
-use Rattle.surface.proofs.triangles.turn.Statement.{statement}
-use Rattle.surface.proofs.triangles.turn.Tie as tie
+use Rattle.triangles.specs.Corners.{turned}
+use Rattle.triangles.proofs.triangles.turn.Statement.{statement}
+use Rattle.triangles.proofs.triangles.turn.Tie as tie
 
 array-copy-out-pick : tie.Need-array-copy-out-pick
 array-copy-out-pick c = search needs

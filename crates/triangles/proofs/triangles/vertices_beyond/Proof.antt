@@ -1,9 +1,9 @@
--- `surface::triangles::vertices_beyond` meets its contract.
+-- `triangles::triangles::vertices_beyond` meets its contract.
 use mathlib.Core.Path.{sym, _∙_}
 use borrow.Author.Needs.{needs}
 use Rattle.net.proofs.Faults.{or-yes, or-no}
-use Rattle.surface.proofs.triangles.vertices_beyond.Statement.{statement}
-use Rattle.surface.proofs.triangles.vertices_beyond.Tie as tie
+use Rattle.triangles.proofs.triangles.vertices_beyond.Statement.{statement}
+use Rattle.triangles.proofs.triangles.vertices_beyond.Tie as tie
 
 vertex-beyond-requires : tie.Need-vertex-beyond-requires
 vertex-beyond-requires c κs = search needs

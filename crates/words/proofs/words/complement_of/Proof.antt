@@ -1,4 +1,4 @@
--- `netfile::words::complement_of` meets its contract.
+-- `words::words::complement_of` meets its contract.
 use mathlib.Core.Path.{_≡_, ap, _∙_}
 use mathlib.Core.List.{List, [], _∷_}
 use Prim.Native.Nat.{_%_}
@@ -7,9 +7,9 @@ use mir.Syntax.{w32}
 use mir.Val.{toZ, ofZ}
 use Rattle.exact.proofs.Expressions.{var, lit, _⊕_, plus}
 use Rattle.exact.proofs.SignedCode.{Leaf, of-number, operation-fits, reads-exact}
-use Rattle.netfile.proofs.WordLaws.{raised, raised-is, raised-small, raised-complement, natural}
-use Rattle.netfile.proofs.words.complement_of.Statement.{statement}
-use Rattle.netfile.proofs.words.complement_of.Tie as tie
+use Rattle.words.proofs.WordLaws.{raised, raised-is, raised-small, raised-complement, natural}
+use Rattle.words.proofs.words.complement_of.Statement.{statement}
+use Rattle.words.proofs.words.complement_of.Tie as tie
 
 module _ (c : tie.Start) where
   abbrev leaves : List (Leaf w32)

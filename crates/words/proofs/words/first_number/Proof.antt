@@ -1,12 +1,12 @@
--- `netfile::words::first_number` meets its contract.
+-- `words::words::first_number` meets its contract.
 use mathlib.Core.Path.{ap, _∙_}
 use Prim.Native.Nat.{ℕ}
 use mir.Syntax.{w32}
 use borrow.Author.Needs.{needs}
 use Rattle.exact.proofs.SignedCode.{reads-as}
-use Rattle.netfile.specs.NetFile.{payloadOf, signed}
-use Rattle.netfile.proofs.words.first_number.Statement.{statement}
-use Rattle.netfile.proofs.words.first_number.Tie as tie
+use Rattle.words.specs.NetFile.{payloadOf, signed}
+use Rattle.words.proofs.words.first_number.Statement.{statement}
+use Rattle.words.proofs.words.first_number.Tie as tie
 
 first-word-requires : tie.Need-first-word-requires
 first-word-requires c κs = search needs

@@ -1,10 +1,10 @@
--- `netfile::words::first_word` meets its contract.
+-- `words::words::first_word` meets its contract.
 use mathlib.Core.Path.{ap, _∙_}
 use borrow.Author.Needs.{needs}
-use Rattle.netfile.specs.LowFirst.{turned}
-use Rattle.netfile.proofs.WordLaws.{turned-first}
-use Rattle.netfile.proofs.words.first_word.Statement.{statement}
-use Rattle.netfile.proofs.words.first_word.Tie as tie
+use Rattle.words.specs.LowFirst.{turned}
+use Rattle.words.proofs.WordLaws.{turned-first}
+use Rattle.words.proofs.words.first_word.Statement.{statement}
+use Rattle.words.proofs.words.first_word.Tie as tie
 
 load-low-first-requires : tie.Need-load-low-first-requires
 load-low-first-requires c κs = search needs

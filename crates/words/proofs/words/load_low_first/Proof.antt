@@ -1,13 +1,13 @@
--- `netfile::words::load_low_first` meets its contract.
+-- `words::words::load_low_first` meets its contract.
 use mathlib.Core.Path.{refl}
 use mathlib.Core.List.{List}
 use Prim.Native.Nat.{ℕ, _<_}
 use native.Mathlib.Omega.{arith}
 use lib.ListN.{getD}
 use borrow.Author.Needs.{needs}
-use Rattle.netfile.specs.LowFirst.{lowFirst}
-use Rattle.netfile.proofs.words.load_low_first.Statement.{statement}
-use Rattle.netfile.proofs.words.load_low_first.Tie as tie
+use Rattle.words.specs.LowFirst.{lowFirst}
+use Rattle.words.proofs.words.load_low_first.Statement.{statement}
+use Rattle.words.proofs.words.load_low_first.Tie as tie
 
 module _ (c : tie.After-shared-slice-known4) where
   abbrev bytes : List ℕ

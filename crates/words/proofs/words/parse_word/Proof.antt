@@ -1,4 +1,4 @@
--- `netfile::words::parse_word` meets its contract.
+-- `words::words::parse_word` meets its contract.
 use mathlib.Core.Path.{_≡_, refl, sym, ap, _∙_}
 use mathlib.Core.Bool.{true, false, not}
 use mathlib.Core.List.{[], _∷_}
@@ -8,9 +8,9 @@ use lib.ListN.{length}
 use borrow.Author.Needs.{needs}
 use borrow.Author.Tests.{lt-ltb, le-ltb, eq-eqb, ne-eqb}
 use Rattle.net.proofs.Faults.{cond-true, cond-false, accepted-answer, refused-answer}
-use Rattle.netfile.specs.NetFile.{kindOf, payloadOf, firstWord}
-use Rattle.netfile.proofs.words.parse_word.Statement.{statement}
-use Rattle.netfile.proofs.words.parse_word.Tie as tie
+use Rattle.words.specs.NetFile.{kindOf, payloadOf, firstWord}
+use Rattle.words.proofs.words.parse_word.Statement.{statement}
+use Rattle.words.proofs.words.parse_word.Tie as tie
 
 returns : tie.Need-returns
 returns c = refused-answer _ _ (cond-true _ 7 _ (lt-ltb _ _ (c .if1 .taken))) (λ e. omega (arith, e))

@@ -1,4 +1,4 @@
--- `netfile::words::signed_number` meets its contract.
+-- `words::words::signed_number` meets its contract.
 use mathlib.Core.Path.{_∙_}
 use mathlib.Core.List.{List, [], _∷_}
 use Prim.Native.Nat.{_+_, _%_}
@@ -8,9 +8,9 @@ use mir.Syntax.{w32}
 use borrow.Author.Needs.{needs}
 use Rattle.exact.proofs.Expressions.{var, lit, _⊖_, minus}
 use Rattle.exact.proofs.SignedCode.{Leaf, of-unsigned, operation-fits, reads-exact}
-use Rattle.netfile.proofs.WordLaws.{signed-round}
-use Rattle.netfile.proofs.words.signed_number.Statement.{statement}
-use Rattle.netfile.proofs.words.signed_number.Tie as tie
+use Rattle.words.proofs.WordLaws.{signed-round}
+use Rattle.words.proofs.words.signed_number.Statement.{statement}
+use Rattle.words.proofs.words.signed_number.Tie as tie
 
 abbrev leaves : tie.Start → List (Leaf w32)
 leaves c = of-unsigned {n = 268435456} ((c .args .p + 134217728) % 268435456) (omega arith) tt ∷ []

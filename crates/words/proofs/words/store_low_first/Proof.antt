@@ -1,4 +1,4 @@
--- `netfile::words::store_low_first` meets its contract.
+-- `words::words::store_low_first` meets its contract.
 use mathlib.Core.Path.{refl}
 use mathlib.Core.List.{List}
 use Prim.Native.Nat.{ℕ, _+_, _/_, _%_, _<_}
@@ -8,9 +8,9 @@ use lib.Dec.{lit<}
 use lib.ListN.{length, set}
 use lib.Seq.{lt-length-set}
 use borrow.Author.Needs.{needs}
-use Rattle.netfile.specs.LowFirst.{lowBytes}
-use Rattle.netfile.proofs.words.store_low_first.Statement.{statement}
-use Rattle.netfile.proofs.words.store_low_first.Tie as tie
+use Rattle.words.specs.LowFirst.{lowBytes}
+use Rattle.words.proofs.words.store_low_first.Statement.{statement}
+use Rattle.words.proofs.words.store_low_first.Tie as tie
 
 module _ (c : tie.Start) where
   abbrev out : List ℕ

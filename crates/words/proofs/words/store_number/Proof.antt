@@ -1,13 +1,13 @@
--- `netfile::words::store_number` meets its contract.
+-- `words::words::store_number` meets its contract.
 use mathlib.Core.Path.{ap, _∙_}
 use native.Mathlib.Omega.{arith}
 use lib.Seq.{sets}
 use mir.Facts.{toZ-ofZ}
 use borrow.Author.Needs.{needs}
-use Rattle.netfile.specs.NetFile.{word, complement, wordBytes}
-use Rattle.netfile.proofs.WordLaws.{complement-small}
-use Rattle.netfile.proofs.words.store_number.Statement.{statement}
-use Rattle.netfile.proofs.words.store_number.Tie as tie
+use Rattle.words.specs.NetFile.{word, complement, wordBytes}
+use Rattle.words.proofs.WordLaws.{complement-small}
+use Rattle.words.proofs.words.store_number.Statement.{statement}
+use Rattle.words.proofs.words.store_number.Tie as tie
 
 complement-of-requires : tie.Need-complement-of-requires
 complement-of-requires c κs = search needs

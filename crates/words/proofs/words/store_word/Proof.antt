@@ -1,13 +1,13 @@
--- `netfile::words::store_word` meets its contract.
+-- `words::words::store_word` meets its contract.
 use mathlib.Core.Path.{ap, _∙_}
 use native.Mathlib.Omega.{arith}
 use lib.Seq.{sets}
 use borrow.Author.Needs.{needs}
-use Rattle.netfile.specs.NetFile.{word}
-use Rattle.netfile.specs.LowFirst.{lowBytes}
-use Rattle.netfile.proofs.WordLaws.{low-turned}
-use Rattle.netfile.proofs.words.store_word.Statement.{statement}
-use Rattle.netfile.proofs.words.store_word.Tie as tie
+use Rattle.words.specs.NetFile.{word}
+use Rattle.words.specs.LowFirst.{lowBytes}
+use Rattle.words.proofs.WordLaws.{low-turned}
+use Rattle.words.proofs.words.store_word.Statement.{statement}
+use Rattle.words.proofs.words.store_word.Tie as tie
 
 mul-v : tie.Need-mul-v
 mul-v c = search needs

@@ -1,9 +1,9 @@
--- `netfile::words::turn` meets its contract.
+-- `words::words::turn` meets its contract.
 use mathlib.Core.Path.{refl}
 use borrow.Author.Needs.{needs}
-use Rattle.netfile.specs.LowFirst.{turned}
-use Rattle.netfile.proofs.words.turn.Statement.{statement}
-use Rattle.netfile.proofs.words.turn.Tie as tie
+use Rattle.words.specs.LowFirst.{turned}
+use Rattle.words.proofs.words.turn.Statement.{statement}
+use Rattle.words.proofs.words.turn.Tie as tie
 
 mul-result : tie.Need-mul-result
 mul-result c = search needs

@@ -1,4 +1,4 @@
--- `netfile::writing::store_file` meets its contract.
+-- `writer::writing::store_file` meets its contract.
 use mathlib.Core.Path.{ap, _∙_}
 use Prim.Native.Nat.{_+_, _*_}
 use native.Mathlib.Omega.{arith}
@@ -8,10 +8,10 @@ use lib.Seq.{sets, length-sets}
 use borrow.Author.Needs.{needs}
 use Rattle.exact.specs.Filling.{runs}
 use Rattle.net.proofs.Places.{good-size, GoodSize}
-use Rattle.netfile.specs.NetFile.{word, wordBytes, endKind, widthKind, heightKind, points, pointBytes}
-use Rattle.netfile.proofs.WriteLaws.{file-stored}
-use Rattle.netfile.proofs.writing.store_file.Statement.{statement}
-use Rattle.netfile.proofs.writing.store_file.Tie as tie
+use Rattle.words.specs.NetFile.{word, wordBytes, endKind, widthKind, heightKind, points, pointBytes}
+use Rattle.writer.proofs.WriteLaws.{file-stored}
+use Rattle.writer.proofs.writing.store_file.Statement.{statement}
+use Rattle.writer.proofs.writing.store_file.Tie as tie
 
 size : (c : tie.Start) → GoodSize (c .args .w) (c .args .h)
 size c = good-size (c .args .w) (c .args .h) (c .pre .0)

@@ -1,4 +1,4 @@
--- `netfile::writing::store_numbers` meets its contract.
+-- `writer::writing::store_numbers` meets its contract.
 use mathlib.Core.Path.{_≡_, sym, ap, _∙_, subst}
 use mathlib.Core.List.{List}
 use Prim.Native.Nat.{ℕ, _+_, _≤_, _<_}
@@ -13,10 +13,10 @@ use borrow.Author.Needs.{needs}
 use Rattle.exact.proofs.SignedCode.{reads-back}
 use Rattle.net.specs.Net.{number}
 use Rattle.net.proofs.Ranges.{in-range}
-use Rattle.netfile.specs.NetFile.{word, complement, xKind, yKind, zKind, numberBytes, pointBytes}
-use Rattle.netfile.proofs.WriteLaws.{words-stored}
-use Rattle.netfile.proofs.writing.store_numbers.Statement.{statement}
-use Rattle.netfile.proofs.writing.store_numbers.Tie as tie
+use Rattle.words.specs.NetFile.{word, complement, xKind, yKind, zKind, numberBytes, pointBytes}
+use Rattle.writer.proofs.WriteLaws.{words-stored}
+use Rattle.writer.proofs.writing.store_numbers.Statement.{statement}
+use Rattle.writer.proofs.writing.store_numbers.Tie as tie
 
 module _ (c : tie.After-z) where
   abbrev net : List ℤ

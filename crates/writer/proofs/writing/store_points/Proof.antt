@@ -1,4 +1,4 @@
--- `netfile::writing::store_points` meets its contract: each turn stores one control point more.
+-- `writer::writing::store_points` meets its contract: each turn stores one control point more.
 use mathlib.Core.Path.{_≡_, refl, ap, _∙_}
 use Prim.Native.Nat.{ℕ, _+_, _-_, _*_, _≤_}
 use native.Mathlib.Omega.{arith}
@@ -8,9 +8,9 @@ use lib.Seq.{sets}
 use borrow.Author.Needs.{needs}
 use Rattle.exact.specs.Filling.{runs}
 use Rattle.exact.proofs.FillingLaws.{runs-none, runs-more}
-use Rattle.netfile.specs.NetFile.{wordBytes, pointBytes}
-use Rattle.netfile.proofs.writing.store_points.Statement.{statement}
-use Rattle.netfile.proofs.writing.store_points.Tie as tie
+use Rattle.words.specs.NetFile.{wordBytes, pointBytes}
+use Rattle.writer.proofs.writing.store_points.Statement.{statement}
+use Rattle.writer.proofs.writing.store_points.Tie as tie
 
 abbrev Inv-loop : tie.InvT-loop
 Inv-loop net n out₀ i₀ out i = (i ≤ n) × (length out ≡ length out₀) × (out ≡ sets out₀ 8 (runs i (λ j. pointBytes net (3 * j))))

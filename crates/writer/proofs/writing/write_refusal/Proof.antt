@@ -1,4 +1,4 @@
--- `netfile::writing::write_refusal` meets its contract.
+-- `writer::writing::write_refusal` meets its contract.
 use mathlib.Core.Path.{_≡_, refl, sym, _∙_}
 use mathlib.Core.Bool.{Bool, false, cond, _||_}
 use Prim.Native.Nat.{ℕ, _*_, _≤_}
@@ -10,9 +10,9 @@ use Rattle.net.specs.TurnedAway.{badSize, shortNet, anyBeyond}
 use Rattle.net.specs.Net.{numbers}
 use Rattle.net.proofs.Places.{good-size, few-vertices}
 use Rattle.net.proofs.Faults.{cond-true, cond-false, or-no, or-yes}
-use Rattle.netfile.specs.TurnedAway.{noRoom, writeRefusal}
-use Rattle.netfile.proofs.writing.write_refusal.Statement.{statement}
-use Rattle.netfile.proofs.writing.write_refusal.Tie as tie
+use Rattle.writer.specs.TurnedAway.{noRoom, writeRefusal}
+use Rattle.writer.proofs.writing.write_refusal.Statement.{statement}
+use Rattle.writer.proofs.writing.write_refusal.Tie as tie
 
 module _ (c : tie.Else1) where
   size : badSize (c .before .before .args .w) (c .before .before .args .h) ≡ false

@@ -1,4 +1,4 @@
--- `netfile::writing::write_with` meets its contract.
+-- `writer::writing::write_with` meets its contract.
 use mathlib.Core.Path.{_≡_, refl, sym, ap, _∙_}
 use mathlib.Core.Bool.{Bool, _||_}
 use mathlib.Core.List.{List, [], _∷_}
@@ -13,11 +13,11 @@ use Rattle.net.specs.TurnedAway.{anyBeyond}
 use Rattle.net.proofs.Places.{good-size, few-vertices}
 use Rattle.net.proofs.Faults.{accepted-answer, refused-answer, when-accepted, when-refused}
 use Rattle.net.proofs.Beyond.{cut}
-use Rattle.netfile.specs.NetFile.{netFile, fileSize}
-use Rattle.netfile.specs.TurnedAway.{writeRefusal, noRoom}
-use Rattle.netfile.proofs.WriteLaws.{GoodNet, good-net, cut-file}
-use Rattle.netfile.proofs.writing.write_with.Statement.{statement}
-use Rattle.netfile.proofs.writing.write_with.Tie as tie
+use Rattle.words.specs.NetFile.{netFile, fileSize}
+use Rattle.writer.specs.TurnedAway.{writeRefusal, noRoom}
+use Rattle.writer.proofs.WriteLaws.{GoodNet, good-net, cut-file}
+use Rattle.writer.proofs.writing.write_with.Statement.{statement}
+use Rattle.writer.proofs.writing.write_with.Tie as tie
 
 -- where nothing is refused
 module _ (c : tie.Then1) where

@@ -1,0 +1,4 @@
+-- The laws of Bézier nets.
+pub mod Weights
+pub mod BezierNets
+pub mod Beyond

@@ -1,0 +1,31 @@
+-- Document 01's number of each case of the answer, and what a Bézier net answers and leaves in lent memory.
+use mathlib.Core.Path.{_≡_, refl}
+use mathlib.Core.Bool.{Bool, true, false}
+use mathlib.Core.List.{List}
+use Prim.Native.Nat.{ℕ}
+use lib.IntN.{ℤ}
+use lib.ListN.{length}
+use Rattle.net.specs.Net.{triangleAt}
+use Rattle.net.specs.TurnedAway.{accepted, outputAfter}
+use Rattle.bezier.specs.BezierNet.{bezierNumbers}
+use Rattle.bezier.specs.TurnedAway.{bezierRefusal}
+use Rattle.bezier.specs.declared.answers.Answer.{Answer}
+use Rattle.bezier.specs.declared.answers.Answer.the-variants as answer
+
+-- document 01's number of an answer, 0 where nothing is refused, and whether the call was carried out
+abbrev pub answerTold : Answer → ℕ × Bool
+answerTold answer.Done = (0, true)
+answerTold (answer.Refused n) = (n, false)
+
+-- what a Bézier net answers: the first fault, and that it is carried out exactly where there is none
+abbrev pub bezierAnswer : List ℤ → ℕ → ℕ → ℕ → ℕ → Bool → ℕ → ℕ × Bool
+bezierAnswer net w h i j down room = (bezierRefusal net w h i j down room, accepted (bezierRefusal net w h i j down room))
+
+-- the Bézier net laid over the front of the lent output, which a refusal leaves as it was
+unfoldable pub bezierOutput : List ℤ → ℕ → ℕ → ℕ → ℕ → Bool → List ℤ → List ℤ
+bezierOutput net w h i j down out =
+    outputAfter (bezierRefusal net w h i j down (length out)) (bezierNumbers net w (triangleAt i j down)) out
+
+-- worked cases: what answers tell
+answers-told : (answerTold answer.Done ≡ (0, true)) × (answerTold (answer.Refused 6) ≡ (6, false))
+answers-told = (refl, refl)

@@ -1,0 +1,3 @@
+-- The statements of distance and range, and demand 3 of the definitions.
+pub mod Promises
+pub mod DemandThree

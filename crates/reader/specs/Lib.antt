@@ -1,0 +1,3 @@
+-- The definitions that contracts cite: what is turned away, and what reading answers and leaves.
+pub mod TurnedAway
+pub mod Answers

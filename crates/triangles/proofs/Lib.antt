@@ -1,0 +1,4 @@
+-- The laws of the corners of triangles.
+pub mod Corners
+pub mod CornerForm
+pub mod Beyond

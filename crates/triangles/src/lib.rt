@@ -1,0 +1,9 @@
+// The control points of a triangle: their range, loading them, and their order.
+mod triangles;
+
+// For the crates above, which have refused every triangle that is not in the net.
+pub use triangles::arrange;
+pub use triangles::coordinate_values;
+pub use triangles::load_triangle;
+pub use triangles::triangle_beyond;
+pub use triangles::turn;

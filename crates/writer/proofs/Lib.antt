@@ -1,0 +1,2 @@
+-- The laws of written files.
+pub mod WriteLaws
