@@ -3,9 +3,9 @@
 //! A line gives the kernel's time, then each other version's and the kernel's over it, all
 //! medians of one run:
 //! - `surface point`, `Bézier net`: one call at a random place or triangle of a net of 17 by 17.
-//! - `refine`: 17 by 17 by six steps to 1,025 by 1,025, 9.5 million numbers. `table` is plain Rust
-//!   with the weight table, `kinds` is Rust written out for each kind of vertex, `copy` copies
-//!   the refined net.
+//! - `refine`: 17 by 17 by six steps to 1,025 by 1,025, 1.05 million vertices. `table` is plain
+//!   Rust with the weight table, `kinds` is Rust written out for each kind of vertex, `copy`
+//!   copies the refined net.
 //! - `write`, `read`: the file of a net of 1,025 by 1,025; `copy` copies the file's bytes.
 
 mod plain;
@@ -15,9 +15,12 @@ mod plain_refine;
 #[allow(dead_code)]
 #[path = "../../tests/src/raw.rs"]
 mod raw;
+#[path = "../../tests/src/record.rs"]
+mod record;
 
 use plain::Refusal;
-use plain_refine::{numbers, refined, Size};
+use plain_refine::{refined, Size};
+use record::numbers;
 use std::cell::RefCell;
 use std::hint::black_box;
 use std::time::Instant;
@@ -195,7 +198,7 @@ fn copy(len: usize) -> Pass<'static> {
 
 /// Writes the net in each version and hands its file back.
 fn write_file(net: &[i32]) -> Vec<u8> {
-    let len = 4 * (net.len() + 3);
+    let len = plain_file::file_len((FILE_SIDE, FILE_SIDE));
     let (mut out, mut same) = (touched(len), touched(len));
     let kernel = Box::new(|| {
         let mut written = [0];
@@ -301,9 +304,9 @@ fn refine(net: &[i32]) {
 }
 
 fn random_net(random: &mut Random, side: usize) -> Vec<i32> {
-    let numbers = 2 * LIMIT as usize + 1;
-    (0..9 * side * side)
-        .map(|_| random.below(numbers) as i32 - LIMIT)
+    let values = 2 * LIMIT as usize + 1;
+    (0..numbers((side, side)))
+        .map(|_| random.below(values) as i32 - LIMIT)
         .collect()
 }
 

@@ -2,6 +2,8 @@
 //!
 //! Sums are formed in `i64`; the greatest is 36 times 2^24 times 2^20 in size.
 
+use crate::record::{numbers, POINT_RECORD, RECORD};
+
 const LIMIT: i32 = 16_777_216;
 const EDGE: usize = 1024;
 const BEZIER_NUMBERS: usize = 57;
@@ -31,11 +33,11 @@ pub fn check_size(w: usize, h: usize) -> Result<(), Refusal> {
 
 pub fn check_lengths(
     net: &[i32],
-    (w, h): (usize, usize),
+    size: (usize, usize),
     out_len: usize,
     needed: usize,
 ) -> Result<(), Refusal> {
-    if net.len() < 9 * w * h {
+    if net.len() < numbers(size) {
         Err(2)
     } else if out_len < needed {
         Err(5)
@@ -93,13 +95,14 @@ fn corners(net: &[i32], w: usize, i: usize, j: usize, down: usize) -> Result<[Co
         0 => [first, first + 1, first + w],
         _ => [first + 1, first + w, first + w + 1],
     };
-    let numbers = vertices.map(|vertex| &net[9 * vertex..9 * vertex + 9]);
+    let numbers = vertices.map(|vertex| &net[RECORD * vertex..RECORD * vertex + RECORD]);
     if !numbers.iter().all(|part| part.iter().all(in_range)) {
         return Err(3);
     }
     Ok([0, 1, 2].map(|corner| {
         let part = numbers[corner];
-        let [k, m, n] = TURNS[down][corner].map(|c| point(|x| i64::from(part[3 * c + x])));
+        let [k, m, n] =
+            TURNS[down][corner].map(|c| point(|x| i64::from(part[POINT_RECORD * c + x])));
         Corner { k, m, n }
     }))
 }

@@ -1,14 +1,28 @@
 //! The net file in plain Rust, to compare the library with.
 
 use crate::plain::{check_lengths, check_size, in_range, Refusal};
+use crate::record::{numbers, POINT_RECORD};
 
 const WIDTH: u32 = 1;
 const HEIGHT: u32 = 2;
+/// The kinds of a control point's words.
 const POINT: [u32; 3] = [3, 4, 5];
 const END: u32 = 6;
 const PAYLOAD: u32 = 0x0fff_ffff;
+/// Bytes of a word.
+const WORD: usize = 4;
 
-fn word(kind: u32, payload: u32) -> [u8; 4] {
+/// The count of control points of a net.
+fn points((w, h): (usize, usize)) -> usize {
+    3 * w * h
+}
+
+/// The count of bytes of a net's file.
+pub fn file_len(size: (usize, usize)) -> usize {
+    WORD * (POINT.len() * points(size) + 3)
+}
+
+fn word(kind: u32, payload: u32) -> [u8; WORD] {
     (kind << 28 | payload & PAYLOAD).to_be_bytes()
 }
 
@@ -20,20 +34,20 @@ pub fn write(
     written: &mut [u64],
 ) -> Result<(), Refusal> {
     check_size(w, h)?;
-    let count = 9 * w * h;
-    let len = 4 * (count + 3);
+    let len = file_len((w, h));
     check_lengths(net, (w, h), out.len(), len)?;
     let written = written.first_mut().ok_or(5_u32)?;
-    let net = &net[..count];
+    let net = &net[..numbers((w, h))];
     if !net.iter().all(in_range) {
         return Err(3);
     }
-    let (sides, rest) = out[..len].split_at_mut(8);
-    let (numbers, end) = rest.split_at_mut(4 * count);
-    sides[..4].copy_from_slice(&word(WIDTH, w as u32));
-    sides[4..].copy_from_slice(&word(HEIGHT, h as u32));
-    for (bytes, point) in numbers.chunks_exact_mut(12).zip(net.chunks_exact(3)) {
-        for ((bytes, &x), kind) in bytes.chunks_exact_mut(4).zip(point).zip(POINT) {
+    let (sides, rest) = out[..len].split_at_mut(2 * WORD);
+    let (words, end) = rest.split_at_mut(WORD * POINT.len() * points((w, h)));
+    sides[..WORD].copy_from_slice(&word(WIDTH, w as u32));
+    sides[WORD..].copy_from_slice(&word(HEIGHT, h as u32));
+    let targets = words.chunks_exact_mut(WORD * POINT.len());
+    for (bytes, point) in targets.zip(net.chunks_exact(POINT_RECORD)) {
+        for ((bytes, &x), kind) in bytes.chunks_exact_mut(WORD).zip(point).zip(POINT) {
             bytes.copy_from_slice(&word(kind, x as u32));
         }
     }
@@ -65,9 +79,9 @@ fn number(word: u32) -> i32 {
     (word << 4) as i32 >> 4
 }
 
-/// The bytes after the numbers and the end word, all of which are looked at.
-fn after_end(numbers: &[u8], points: usize) -> Result<&[u8], Refusal> {
-    let mut rest = numbers;
+/// The bytes after the words of the control points and the end word, all of which are looked at.
+fn after_end(words: &[u8], points: usize) -> Result<&[u8], Refusal> {
+    let mut rest = words;
     for _ in 0..points {
         for kind in POINT {
             let (payload, after) = next(rest, kind)?;
@@ -86,16 +100,17 @@ fn after_end(numbers: &[u8], points: usize) -> Result<&[u8], Refusal> {
 #[inline(never)]
 pub fn read(file: &[u8], net: &mut [i32], size: &mut [u64]) -> Result<(), Refusal> {
     let (w, rest) = next_side(file, WIDTH)?;
-    let (h, numbers) = next_side(rest, HEIGHT)?;
-    let count = 9 * w * h;
+    let (h, words) = next_side(rest, HEIGHT)?;
+    let count = numbers((w, h));
     if net.len() < count || size.len() < 2 {
         return Err(5);
     }
     // The whole file is looked through before the first number is stored.
-    if !after_end(numbers, count / 3)?.is_empty() {
+    if !after_end(words, points((w, h)))?.is_empty() {
         return Err(9);
     }
-    for (x, bytes) in net[..count].iter_mut().zip(numbers.as_chunks().0) {
+    // The net's numbers are the words of its control points, one after the other.
+    for (x, bytes) in net[..count].iter_mut().zip(words.as_chunks().0) {
         *x = number(u32::from_be_bytes(*bytes));
     }
     size[..2].copy_from_slice(&[w as u64, h as u64]);

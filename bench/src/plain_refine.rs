@@ -2,11 +2,12 @@
 //! written out for each kind of vertex.
 
 use crate::plain::{check_lengths, check_size, in_range, rounded, Refusal};
+use crate::record::{numbers, Control};
 use std::{array, mem};
 
 pub type Size = (usize, usize);
 
-type Triangle = [[i32; 3]; 3];
+type Triangle = [Control; 3];
 
 /// The weights over 12 of a1 a2 a3 b1 b2 b3 in each control point of a vertex: kept, and new on
 /// an edge along e1, e2, e3. A kept vertex has no b.
@@ -41,10 +42,6 @@ pub fn by_kind(
 
 pub fn refined((w, h): Size, k: usize) -> Size {
     (((w - 1) << k) + 1, ((h - 1) << k) + 1)
-}
-
-pub fn numbers((w, h): Size) -> usize {
-    9 * w * h
 }
 
 fn refine(
@@ -166,7 +163,7 @@ fn kept(c: &Triangle) -> Triangle {
 fn halving<const K: usize>(a: &Triangle, b: &Triangle) -> Triangle {
     let (l, m) = ((K + 1) % 3, (K + 2) % 3);
     let beside = |c: usize| array::from_fn(|x| (2 * a[K][x] + a[c][x] + b[c][x] + 2) >> 2);
-    let mut new = [[0; 3]; 3];
+    let mut new = Triangle::default();
     new[K] = array::from_fn(|x| (b[l][x] + b[m][x] + 1) >> 1);
     new[l] = beside(l);
     new[m] = beside(m);

@@ -10,6 +10,7 @@ use crate::oracle::{BEZIER_NUMBERS, POINT_NUMBERS};
 use crate::pages::{Pages, Side};
 use crate::random::mix;
 use crate::raw;
+use crate::record;
 use crate::refinement;
 use std::cell::RefCell;
 
@@ -369,8 +370,8 @@ impl LentFile {
         let refusal = unsafe { raw::ups_read(file, len, to, net_len, sides, size_len) };
         self.check();
         let [w, h] = size.result(refusal).unwrap_or([0, 0]).map(|x| x as usize);
-        let numbers = net.front(refusal, 9 * w * h)?.to_vec();
         let size = (w, h);
+        let numbers = net.front(refusal, record::numbers(size))?.to_vec();
         Ok(FileNet { size, numbers })
     }
 }

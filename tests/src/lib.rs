@@ -2,7 +2,8 @@
 //!
 //! `oracle` writes the definitions down in exact rationals, `refinement` those of refinement
 //! and `netfile` those of the net file, `kernel` calls the library with guarded memory, `call`
-//! asks both the same question. A further subject of the library gets its own definitions in
+//! asks both the same question. `record` alone says how many numbers a net has for a control
+//! point and for a vertex. A further subject of the library gets its own definitions in
 //! `oracle` or a module of its own, its own wrapper in `kernel` and a case of `call::Ask`.
 
 pub mod call;
@@ -14,4 +15,5 @@ pub mod pages;
 pub mod random;
 pub mod rational;
 mod raw;
+pub mod record;
 pub mod refinement;

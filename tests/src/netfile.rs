@@ -1,6 +1,7 @@
 //! The net file in the plainest way, word by word over a list of bytes.
 
 use crate::oracle::{self, Faults, LIMIT};
+use crate::record::{self, Control, POINT_RECORD};
 
 pub const WIDTH: u32 = 1;
 pub const HEIGHT: u32 = 2;
@@ -8,6 +9,13 @@ pub const X: u32 = 3;
 pub const Y: u32 = 4;
 pub const Z: u32 = 5;
 pub const END: u32 = 6;
+
+/// Bytes of a word.
+pub const WORD_BYTES: usize = 4;
+/// Words of a control point, whatever a net stores for it.
+pub const POINT_WORDS: usize = 3;
+/// Their kinds.
+const POINT: [u32; POINT_WORDS] = [X, Y, Z];
 
 /// The count of payloads: 28 bits.
 const PAYLOADS: i64 = 1 << 28;
@@ -25,16 +33,18 @@ pub fn word(kind: u32, value: i64) -> u32 {
     kind << 28 | value.rem_euclid(PAYLOADS) as u32
 }
 
-/// The kind of the number at a position of the net.
+/// The kind of a number's word by its position after the sides.
 pub fn number_kind(position: usize) -> u32 {
-    [X, Y, Z][position % 3]
+    POINT[position % POINT_WORDS]
 }
 
 /// The words of a file of these numbers, whatever they are.
 pub fn words(net: &[i32], (w, h): (usize, usize)) -> Vec<u32> {
     let mut words = vec![word(WIDTH, w as i64), word(HEIGHT, h as i64)];
-    for (position, &x) in net[..9 * w * h].iter().enumerate() {
-        words.push(word(number_kind(position), i64::from(x)));
+    for point in net[..record::numbers((w, h))].chunks_exact(POINT_RECORD) {
+        for (kind, &x) in POINT.into_iter().zip(point) {
+            words.push(word(kind, i64::from(x)));
+        }
     }
     words.push(word(END, 0));
     words
@@ -53,8 +63,8 @@ pub fn file(net: &[i32], size: (usize, usize)) -> Vec<u8> {
 
 /// The count of bytes in a file; none where it does not fit a `usize`.
 pub fn file_len(w: usize, h: usize) -> Option<usize> {
-    let numbers = w.checked_mul(h)?.checked_mul(9)?;
-    numbers.checked_add(3)?.checked_mul(4)
+    let numbers = w.checked_mul(h)?.checked_mul(3 * POINT_WORDS)?;
+    numbers.checked_add(3)?.checked_mul(WORD_BYTES)
 }
 
 pub fn write_faults(
@@ -94,7 +104,7 @@ impl Reader<'_> {
         let [a, b, c, d, ..] = *self.left else {
             return Err(7);
         };
-        self.left = &self.left[4..];
+        self.left = &self.left[WORD_BYTES..];
         let word = [a, b, c, d]
             .iter()
             .fold(0, |word, &x| 256 * word + i64::from(x));
@@ -123,6 +133,10 @@ impl Reader<'_> {
         }
     }
 
+    fn control(&mut self) -> Result<Control, u32> {
+        Ok([self.number(X)?, self.number(Y)?, self.number(Z)?])
+    }
+
     fn end(&mut self) -> Result<(), u32> {
         match self.payload(END)? {
             0 => Ok(()),
@@ -136,17 +150,17 @@ pub fn read(file: &[u8], net_len: usize, size_len: usize) -> Result<FileNet, u32
     let mut reader = Reader { left: file };
     let w = reader.side(WIDTH)?;
     let h = reader.side(HEIGHT)?;
-    if net_len < 9 * w * h || size_len < 2 {
+    let size = (w, h);
+    if net_len < record::numbers(size) || size_len < 2 {
         return Err(5);
     }
     let mut numbers = Vec::new();
-    for position in 0..9 * w * h {
-        numbers.push(reader.number(number_kind(position))?);
+    for _ in 0..3 * w * h {
+        numbers.extend(reader.control()?);
     }
     reader.end()?;
     if !reader.left.is_empty() {
         return Err(9);
     }
-    let size = (w, h);
     Ok(FileNet { size, numbers })
 }

@@ -2,6 +2,7 @@
 
 use crate::oracle::LIMIT;
 use crate::random::Random;
+use crate::record::{self, Control};
 
 /// The door corner, 2 by 2, with the given z of c1 of vertex (0, 0).
 pub fn door_corner(z: i32) -> Vec<i32> {
@@ -10,9 +11,9 @@ pub fn door_corner(z: i32) -> Vec<i32> {
         for i in 0..2 {
             let (x, y) = (1200 * i, 1200 * j);
             let c1_z = if (i, j) == (0, 0) { z } else { 0 };
-            net.extend([x + 600, y, c1_z]);
-            net.extend([x - 600, y + 600, 0]);
-            net.extend([x, y - 600, 0]);
+            let controls: [Control; 3] =
+                [[x + 600, y, c1_z], [x - 600, y + 600, 0], [x, y - 600, 0]];
+            net.extend(controls.as_flattened());
         }
     }
     net
@@ -49,8 +50,8 @@ pub fn random_number(random: &mut Random, numbers: Numbers) -> i32 {
     }
 }
 
-pub fn random_net(random: &mut Random, (w, h): (usize, usize), numbers: Numbers) -> Vec<i32> {
-    (0..9 * w * h)
+pub fn random_net(random: &mut Random, size: (usize, usize), numbers: Numbers) -> Vec<i32> {
+    (0..record::numbers(size))
         .map(|_| random_number(random, numbers))
         .collect()
 }

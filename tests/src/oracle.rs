@@ -2,6 +2,7 @@
 //! k, m, n run from 1 to 3, corners of a triangle from 0 to 2.
 
 use crate::rational::Rational;
+use crate::record::{POINT_RECORD, RECORD};
 
 pub const EDGE: i128 = 1024;
 pub const LIMIT: i32 = 16_777_216;
@@ -143,14 +144,14 @@ impl<'a> Net<'a> {
         Net { numbers, w, h }
     }
 
-    /// The nine numbers of a vertex.
+    /// The numbers of a vertex.
     pub fn vertex(&self, at: Vertex) -> &'a [i32] {
         let start = vertex_start(self.w, at);
-        &self.numbers[start..start + 9]
+        &self.numbers[start..start + RECORD]
     }
 
     pub(crate) fn control(&self, at: Vertex, k: usize) -> Point {
-        let numbers = &self.vertex(at)[3 * (k - 1)..3 * k];
+        let numbers = &self.vertex(at)[POINT_RECORD * (k - 1)..POINT_RECORD * k];
         [numbers[0].into(), numbers[1].into(), numbers[2].into()]
     }
 
@@ -168,7 +169,7 @@ impl<'a> Net<'a> {
     pub fn control_range(&self, triangle: Triangle, coordinate: usize) -> (i32, i32) {
         let values = triangle.corners().map(|at| {
             let numbers = self.vertex(at);
-            [0, 3, 6].map(|start| numbers[start + coordinate])
+            [1, 2, 3].map(|k| numbers[POINT_RECORD * (k - 1) + coordinate])
         });
         let all = values.as_flattened();
         (
@@ -179,7 +180,8 @@ impl<'a> Net<'a> {
 }
 
 fn vertex_start(w: usize, at: Vertex) -> usize {
-    usize::try_from(9 * (at.1 * w as i128 + at.0)).expect("position in the net")
+    let vertex = at.1 * w as i128 + at.0;
+    usize::try_from(RECORD as i128 * vertex).expect("position in the net")
 }
 
 /// A corner P of a triangle with its neighbours P + ek and P - em; n is the third index.
@@ -346,7 +348,7 @@ pub fn size_fault(w: usize, h: usize) -> bool {
 pub fn short(len: usize, w: usize, h: usize) -> bool {
     let needed = (w as u128)
         .checked_mul(h as u128)
-        .and_then(|n| n.checked_mul(9));
+        .and_then(|n| n.checked_mul(RECORD as u128));
     needed.is_none_or(|needed| (len as u128) < needed)
 }
 
@@ -368,22 +370,22 @@ fn beyond_range(x: &i32) -> bool {
 
 /// Whether one of the net's numbers, as far as they are lent, is beyond its range.
 pub(crate) fn net_fault(net: &[i32], w: usize, h: usize) -> bool {
-    let count = w.saturating_mul(h).saturating_mul(9);
+    let count = w.saturating_mul(h).saturating_mul(RECORD);
     net.iter().take(count).any(beyond_range)
 }
 
-/// Whether one of the triangle's 27 numbers, as far as they are lent, is beyond its range.
+/// Whether one of the triangle's numbers, as far as they are lent, is beyond its range.
 fn number_fault(net: &[i32], w: usize, triangle: Option<Triangle>) -> bool {
     let Some(triangle) = triangle else {
         return false;
     };
     triangle.corners().iter().any(|&(i, j)| {
         let row = j.checked_mul(w as i128).and_then(|r| r.checked_add(i));
-        let start = row.and_then(|v| v.checked_mul(9));
+        let start = row.and_then(|v| v.checked_mul(RECORD as i128));
         let Some(start) = start.and_then(|s| usize::try_from(s).ok()) else {
             return false;
         };
-        let mut lent = net.iter().skip(start).take(9);
+        let mut lent = net.iter().skip(start).take(RECORD);
         lent.any(beyond_range)
     })
 }

@@ -3,6 +3,7 @@
 
 use crate::oracle::{self, ahead, behind, others, over, sum, times};
 use crate::oracle::{Faults, Net, Point, Vertex, POINT_NUMBERS};
+use crate::record::{self, Control, RECORD};
 
 const MOST_STEPS: usize = 6;
 const MOST_SIDE: usize = 1025;
@@ -19,7 +20,7 @@ pub fn refined_size(size: (usize, usize), k: usize) -> Option<(usize, usize)> {
 /// The count of numbers of the net after k steps.
 pub fn refined_len(size: (usize, usize), k: usize) -> Option<usize> {
     let (w, h) = refined_size(size, k)?;
-    w.checked_mul(h)?.checked_mul(9)
+    w.checked_mul(h)?.checked_mul(RECORD)
 }
 
 /// The count of scratch numbers for k steps, which are free afterwards.
@@ -74,7 +75,7 @@ fn halving(net: &Net, at: Vertex) -> [Point; 3] {
 /// The numbers of the net after one step.
 fn one_step(net: &Net) -> Vec<i32> {
     let (w, h) = refined_size((net.w, net.h), 1).expect("a size");
-    let mut numbers = Vec::with_capacity(9 * w * h);
+    let mut numbers = Vec::with_capacity(record::numbers((w, h)));
     for j in 0..h as i128 {
         for i in 0..w as i128 {
             let at = (i, j);
@@ -83,7 +84,8 @@ fn one_step(net: &Net) -> Vec<i32> {
             } else {
                 halving(net, at)
             };
-            numbers.extend(triangle.into_iter().flat_map(oracle::rounded));
+            let controls: [Control; 3] = triangle.map(oracle::rounded);
+            numbers.extend(controls.as_flattened());
         }
     }
     numbers
@@ -91,7 +93,7 @@ fn one_step(net: &Net) -> Vec<i32> {
 
 /// The numbers of the net after k steps.
 pub fn refined(net: &[i32], size: (usize, usize), k: usize) -> Vec<i32> {
-    let mut numbers = net[..9 * size.0 * size.1].to_vec();
+    let mut numbers = net[..record::numbers(size)].to_vec();
     for step in 0..k {
         let (w, h) = refined_size(size, step).expect("a size");
         numbers = one_step(&Net::new(&numbers, w, h));

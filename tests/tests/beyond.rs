@@ -1,4 +1,4 @@
-//! Numbers of the net beyond 9wh are neither read nor changed.
+//! Numbers beyond the last vertex of the net are neither read nor changed.
 
 use ups_tests::call::{Answer, Ask, Call};
 use ups_tests::kernel::LentNet;
@@ -6,6 +6,7 @@ use ups_tests::nets::{self, Numbers, NUMBERS};
 use ups_tests::oracle::LIMIT;
 use ups_tests::pages::Side;
 use ups_tests::random::Random;
+use ups_tests::record::{self, RECORD};
 
 /// All calls on the last vertex and in the last cell, and some others.
 fn asks(random: &mut Random, (w, h): (usize, usize)) -> Vec<Ask> {
@@ -35,7 +36,7 @@ fn junk_beyond_the_net_changes_no_answer() {
         let size = nets::random_size(&mut random);
         let exact = nets::random_net(&mut random, size, NUMBERS[round % 4]);
         let mut longer = Vec::new();
-        for extra in [1, 8, 9, 100, 9 * size.0] {
+        for extra in [1, RECORD - 1, RECORD, 100, RECORD * size.0] {
             let mut in_range = exact.clone();
             let mut out_of_range = exact.clone();
             for _ in 0..extra {
@@ -97,7 +98,7 @@ fn fewer_rows_of_a_longer_net() {
         let (w, h) = nets::random_size(&mut random);
         let mut numbers = nets::random_net(&mut random, (w, h), NUMBERS[round % 4]);
         for rows in 2..=h {
-            numbers[9 * w * rows..].fill(i32::MIN);
+            numbers[record::numbers((w, rows))..].fill(i32::MIN);
             for ask in asks(&mut random, (w, rows)) {
                 let call = Call::new(&numbers, (w, rows), ask);
                 call.expect(0);

@@ -4,6 +4,7 @@ use ups_tests::kernel::LentNet;
 use ups_tests::nets::{self, NUMBERS};
 use ups_tests::oracle::{self, Kind, Net, Triangle};
 use ups_tests::random::Random;
+use ups_tests::record;
 
 fn check_all_triangles(numbers: &[i32], size: (usize, usize)) {
     let lent = LentNet::new(numbers);
@@ -41,12 +42,13 @@ fn every_triangle_of_long_narrow_nets() {
     }
 }
 
-/// Each of the 36 numbers of a cell alone, so that every weight is seen by itself.
+/// Each number of a cell alone, so that every weight is seen by itself.
 #[test]
 fn one_number_at_a_time() {
-    for position in 0..36 {
+    let count = record::numbers((2, 2));
+    for position in 0..count {
         for value in [1, -1, oracle::LIMIT, -oracle::LIMIT] {
-            let mut numbers = vec![0; 36];
+            let mut numbers = vec![0; count];
             numbers[position] = value;
             check_all_triangles(&numbers, (2, 2));
         }

@@ -6,6 +6,7 @@ use ups_tests::nets::{self, Numbers, NUMBERS};
 use ups_tests::oracle::{triangles_at, Net, EDGE};
 use ups_tests::random::Random;
 use ups_tests::rational::Rational;
+use ups_tests::record::RECORD;
 use ups_tests::refinement;
 
 type Size = (usize, usize);
@@ -27,7 +28,7 @@ impl<'a> Refined<'a> {
         let room = Room::of_steps(size, k, 0);
         let mut whole = starting.refine(size, k, room).expect("accepted");
         // Beyond the range as well.
-        whole.extend((0..90).map(i32::canary));
+        whole.extend((0..10 * RECORD).map(i32::canary));
         Refined {
             start: Net::new(numbers, size.0, size.1),
             k,

@@ -6,8 +6,11 @@ use ups_tests::netfile::{self, FileNet};
 use ups_tests::nets::door_corner;
 use ups_tests::oracle::{self, Net, EDGE, LIMIT};
 use ups_tests::rational::Rational;
+use ups_tests::record::{self, POINT_RECORD};
 
 const SIZE: (usize, usize) = (2, 2);
+/// Numbers of a net of this size.
+const NUMBERS: usize = record::numbers(SIZE);
 /// Column, row and point of each refined vertex, as the specification lists them.
 const LISTING: [(usize, usize, [i32; 3]); 9] = [
     (0, 0, [0, 0, 40]),
@@ -21,7 +24,13 @@ const LISTING: [(usize, usize, [i32; 3]); 9] = [
     (2, 2, [1200, 1200, 0]),
 ];
 
-fn z_numbers(numbers: &[i32]) -> Vec<i32> {
+/// z of each control point of a net.
+fn net_z(net: &[i32]) -> Vec<i32> {
+    net.iter().skip(2).step_by(POINT_RECORD).copied().collect()
+}
+
+/// z of each point of a Bézier net.
+fn bezier_z(numbers: &[i32]) -> Vec<i32> {
     numbers.iter().skip(2).step_by(3).copied().collect()
 }
 
@@ -136,7 +145,7 @@ fn refined_numbers_of_the_door_corner() {
         (120, [[80, 20, 20], [0, 60, 60], [30, 0, 60]]),
         (-120, [[-80, -20, -20], [0, -60, -60], [-30, 0, -60]]),
     ] {
-        let z = z_numbers(&refine(&door_corner(z), 1));
+        let z = net_z(&refine(&door_corner(z), 1));
         // Vertices (0, 0), (1, 0) and (0, 1) of three in a row; beyond them all z are 0.
         for (vertex, z) in z.chunks(3).enumerate() {
             let place = [0, 1, 3].iter().position(|&at| at == vertex);
@@ -148,7 +157,7 @@ fn refined_numbers_of_the_door_corner() {
 #[test]
 fn refined_halves_go_upwards_on_both_sides_of_zero() {
     for (z, half) in [(1, 1), (-1, 0), (3, 2), (-3, -1), (5, 3), (-5, -2)] {
-        let z = z_numbers(&refine(&door_corner(z), 1));
+        let z = net_z(&refine(&door_corner(z), 1));
         assert_eq!(z[3..6], [0, half, half]);
     }
 }
@@ -159,14 +168,14 @@ fn bezier_net_of_the_up_triangle() {
     let expected = [
         1440, 0, 0, 2880, 2160, 0, 0, 0, 0, 2880, 0, 0, 1440, 1080, 0, 1440, 1440, 0, 960,
     ];
-    assert_eq!(z_numbers(&numbers), expected);
+    assert_eq!(bezier_z(&numbers), expected);
     let numbers = bezier(&door_corner(-120), 0);
-    assert_eq!(z_numbers(&numbers), expected.map(|z| -z));
+    assert_eq!(bezier_z(&numbers), expected.map(|z| -z));
 }
 
 #[test]
 fn bezier_net_of_the_down_triangle_is_flat() {
-    assert_eq!(z_numbers(&bezier(&door_corner(120), 1)), [0; 19]);
+    assert_eq!(bezier_z(&bezier(&door_corner(120), 1)), [0; 19]);
 }
 
 /// x and y of the door corner are linear: the points lie at their places in the grid.
@@ -213,7 +222,7 @@ fn quarters_are_rounded_once_with_halves_upwards() {
         (0, 2, 1),
     ] {
         let mut net = door_corner(0);
-        for z in net.iter_mut().skip(2).step_by(3) {
+        for z in net.iter_mut().skip(2).step_by(POINT_RECORD) {
             *z = base;
         }
         net[2] = base + quarters;
@@ -263,7 +272,7 @@ fn examples_of_refusals() {
     }
     let wide = (18, 2);
     for ask in [Ask::refine(wide, 6), Ask::refined_point(wide, 6, (0, 0))] {
-        Call::new(&vec![0; 9 * 18 * 2], wide, ask).expect(4);
+        Call::new(&vec![0; record::numbers(wide)], wide, ask).expect(4);
     }
     let mut write = Call::new(&net, SIZE, Ask::Write { written_len: 1 });
     for (out_len, refusal) in [(155, 5), (156, 0)] {
@@ -275,7 +284,7 @@ fn examples_of_refusals() {
 #[test]
 fn examples_of_refused_files() {
     let file = file(&door_corner(120));
-    let expect = |file: &[u8], refusal| Reading::new(file, 36).expect(refusal);
+    let expect = |file: &[u8], refusal| Reading::new(file, NUMBERS).expect(refusal);
     expect(&file, 0);
     expect(&[], 7);
     expect(&[&[0x20, 0, 0, 2], &file[4..]].concat(), 8);
@@ -313,7 +322,7 @@ fn the_file_of_the_door_corner() {
         size: SIZE,
         numbers,
     };
-    assert_eq!(Reading::new(&bytes, 36).check(), Ok(net));
+    assert_eq!(Reading::new(&bytes, NUMBERS).check(), Ok(net));
 }
 
 #[test]
@@ -323,7 +332,7 @@ fn z_of_minus_one_is_word_5fffffff() {
     let bytes = file(&net);
     // The fifth word is z of c1 of (0, 0).
     assert_eq!(bytes[16..20], [0x5f, 0xff, 0xff, 0xff]);
-    let back = Reading::new(&bytes, 36).check().expect("accepted");
+    let back = Reading::new(&bytes, NUMBERS).check().expect("accepted");
     assert_eq!(back.numbers, net);
 }
 
@@ -333,11 +342,11 @@ fn accepted_at_the_edge() {
     assert_eq!(point(&net, 1024, 0), [1200, 0, 0]);
     for edge in [LIMIT, -LIMIT] {
         assert_eq!(edge.abs(), 16_777_216);
-        let full = vec![edge; 36];
+        let full = vec![edge; NUMBERS];
         assert_eq!(point(&full, 300, 200), [edge; 3]);
         assert_eq!(bezier(&full, 0), [36 * edge; 57]);
         assert_eq!(bezier(&full, 1), [36 * edge; 57]);
-        Reading::new(&file(&full), 36).expect(0);
+        Reading::new(&file(&full), NUMBERS).expect(0);
         let mut one = net.clone();
         one[0] = edge;
         point(&one, 300, 200);
@@ -351,10 +360,10 @@ fn six_steps_of_17_by_17_are_accepted() {
     let size = (17, 17);
     let last = 1024 * 1024;
     for edge in [LIMIT, -LIMIT] {
-        let net = LentNet::new(&vec![edge; 9 * 17 * 17]);
+        let net = LentNet::new(&vec![edge; record::numbers(size)]);
         let room = Room::of_steps(size, 6, 0);
         let refined = net.refine(size, 6, room).expect("accepted");
-        assert!(refined == vec![edge; 9 * 1025 * 1025]);
+        assert!(refined == vec![edge; record::numbers((1025, 1025))]);
         let at_once = net.refined_point(size, 6, (last, last), room, 3);
         assert!(at_once == Ok((refined, [edge; 3])));
     }
@@ -364,7 +373,7 @@ fn six_steps_of_17_by_17_are_accepted() {
 fn the_greatest_net_is_accepted() {
     const SIDE: usize = 1025;
     let size = (SIDE, SIDE);
-    let numbers: Vec<i32> = (0..9 * SIDE * SIDE)
+    let numbers: Vec<i32> = (0..record::numbers(size))
         .map(|n| (n as i32).wrapping_mul(0x2545_f491) >> 8)
         .collect();
     assert!(numbers.iter().all(|x| (-LIMIT..=LIMIT).contains(x)));
@@ -393,7 +402,7 @@ fn the_greatest_net_is_accepted() {
 
 #[test]
 fn one_vertex_more_a_side_is_refused() {
-    let numbers = vec![0; 9 * 1026 * 1026];
+    let numbers = vec![0; record::numbers((1026, 1026))];
     let net = LentNet::new(&numbers);
     let file_len = |(w, h)| netfile::file_len(w, h).expect("a length");
     let copy = |size| Room::of_steps(size, 0, 0);

@@ -13,6 +13,7 @@ use ups_tests::netfile::{self, FileNet, END, HEIGHT, WIDTH};
 use ups_tests::nets::{self, Numbers, NUMBERS};
 use ups_tests::oracle::{self, LIMIT};
 use ups_tests::random::Random;
+use ups_tests::record::{self, Control};
 use ups_tests::refinement;
 
 type Size = (usize, usize);
@@ -121,7 +122,7 @@ fn random_file(random: &mut Random, size: Size, numbers: Numbers) -> Vec<u8> {
 
 /// A file whose numbers do not matter.
 fn zero_file(size: Size) -> Vec<u8> {
-    netfile::file(&vec![0; 9 * size.0 * size.1], size)
+    netfile::file(&vec![0; record::numbers(size)], size)
 }
 
 fn door_corner_file() -> Vec<u8> {
@@ -233,15 +234,16 @@ fn numbers_of_every_length_and_both_signs() {
         -LIMIT,
     ];
     for value in values {
-        let text = check(&netfile::file(&[value; 36], (2, 2)));
+        let net = [value; record::numbers((2, 2))];
+        let text = check(&netfile::file(&net, (2, 2)));
         let line = format!("1 2 {value} {value} {value}");
         assert!(text.lines().any(|found| found == line), "{text}");
     }
     // Each coordinate with a sign of its own.
     for signs in 0..8 {
-        let point = [0, 1, 2].map(|c| if signs >> c & 1 == 0 { 7 << c } else { -7 << c });
-        let text = check(&netfile::file(&point.repeat(12), (2, 2)));
-        let [x, y, z] = point;
+        let [x, y, z] = [0, 1, 2].map(|c| if signs >> c & 1 == 0 { 7 << c } else { -7 << c });
+        let control: Control = [x, y, z];
+        let text = check(&netfile::file(&control.repeat(12), (2, 2)));
         assert!(text.ends_with(&format!("\n2 2 {x} {y} {z}\n")), "{text}");
     }
 }

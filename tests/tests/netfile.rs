@@ -5,6 +5,7 @@ use ups_tests::netfile::{self, FileNet};
 use ups_tests::nets::{self, Numbers, NUMBERS};
 use ups_tests::oracle::LIMIT;
 use ups_tests::random::Random;
+use ups_tests::record;
 
 /// Every output is longer than its result by `extra`.
 fn check(numbers: &[i32], size: (usize, usize), extra: usize) {
@@ -91,13 +92,14 @@ fn the_greatest_net() {
 /// Each number of a 2 by 2 net alone, with every length of payload on both sides of zero.
 #[test]
 fn one_number_at_a_time() {
-    for position in 0..36 {
+    let count = record::numbers((2, 2));
+    for position in 0..count {
         for power in 0..=24 {
             for near in [-1, 0, 1] {
                 for sign in [-1, 1] {
                     let value = sign * ((1 << power) + near);
                     if (-LIMIT..=LIMIT).contains(&value) {
-                        let mut numbers = vec![0; 36];
+                        let mut numbers = vec![0; count];
                         numbers[position] = value;
                         check(&numbers, (2, 2), 0);
                     }

@@ -5,6 +5,7 @@ use ups_tests::nets::{self, NUMBERS};
 use ups_tests::oracle::{self, chosen_triangle, triangles_at, Kind, Net, Patch, Triangle, EDGE};
 use ups_tests::random::Random;
 use ups_tests::rational::Rational;
+use ups_tests::record::{self, POINT_RECORD, RECORD};
 use ups_tests::refinement;
 
 fn ratio(numerator: i128, denominator: i128) -> Rational {
@@ -287,7 +288,8 @@ fn refined_z_of_the_door_corner() {
         (-3, [[-2, 0, 0], [0, -1, -1], [-1, 0, -1]]),
     ] {
         let refined = refinement::refined(&nets::door_corner(z), (2, 2), 1);
-        let found: Vec<i32> = refined.iter().skip(2).step_by(3).copied().collect();
+        let all_z = refined.iter().skip(2).step_by(POINT_RECORD);
+        let found: Vec<i32> = all_z.copied().collect();
         let mut all = [[0; 3]; 9];
         // Row by row, three vertices each.
         [all[0], all[1], all[3]] = expected;
@@ -318,6 +320,8 @@ fn refined_x_and_y_of_the_door_corner() {
 #[test]
 fn refined_edges_in_each_direction() {
     let (a, b) = ([8, 16, 24], [40, 80, 120]);
+    // The position of x of a control point; k counts from 0.
+    let x = |vertex: usize, k: usize| RECORD * vertex + POINT_RECORD * k;
     for (from, to, at, expected) in [
         // e1: (80 + 120)/2, (2·8 + 16 + 80)/4, (2·8 + 24 + 120)/4
         (0, 1, 1, [100, 28, 40]),
@@ -327,13 +331,13 @@ fn refined_edges_in_each_direction() {
         // c2' = (2·24 + 16 + 80)/4
         (2, 0, 3, [24, 36, 60]),
     ] {
-        let mut numbers = vec![0; 36];
+        let mut numbers = vec![0; record::numbers((2, 2))];
         for k in 0..3 {
-            numbers[9 * from + 3 * k] = a[k];
-            numbers[9 * to + 3 * k] = b[k];
+            numbers[x(from, k)] = a[k];
+            numbers[x(to, k)] = b[k];
         }
         let refined = refinement::refined(&numbers, (2, 2), 1);
-        let found = [0, 3, 6].map(|start| refined[9 * at + start]);
+        let found = [0, 1, 2].map(|k| refined[x(at, k)]);
         assert_eq!(found, expected, "from vertex {from} to vertex {to}");
     }
 }
@@ -375,13 +379,15 @@ fn sizes_after_some_steps() {
         assert_eq!(refinement::refined_size(size, k), expected, "{size:?} {k}");
     }
     let lens = [0, 1, 2, 3].map(|k| refinement::scratch_len((3, 2), k));
-    assert_eq!(lens, [Some(0), Some(0), Some(9 * 15), Some(9 * 45)]);
+    assert_eq!(lens, [0, 0, RECORD * 15, RECORD * 45].map(Some));
 }
 
 #[test]
 fn refusals_of_the_oracle_hold_for_the_greatest_sizes() {
     const MAX: usize = usize::MAX;
-    let net = [0; 36];
+    let net = [0; record::numbers((2, 2))];
+    // The numbers after one step and after two.
+    let [once, twice] = [(3, 3), (5, 5)].map(record::numbers);
     let all = |faults: oracle::Faults| faults.iter().map(|f| f.0).collect::<Vec<_>>();
     assert_eq!(
         all(oracle::vertex_faults(&net, MAX, MAX, MAX, MAX)),
@@ -409,9 +415,9 @@ fn refusals_of_the_oracle_hold_for_the_greatest_sizes() {
         [true, true, true, true, false]
     );
     assert_eq!(
-        all(refinement::refine_faults(&net, (2, 2), 1, 81, 0)),
+        all(refinement::refine_faults(&net, (2, 2), 1, once, 0)),
         [false; 5]
     );
-    let far = refinement::refined_point_faults(&net, (2, 2), 2, (4097, 0), 225, 80, 3);
+    let far = refinement::refined_point_faults(&net, (2, 2), 2, (4097, 0), twice, once - 1, 3);
     assert_eq!(all(far), [false, false, true, false, true, false]);
 }

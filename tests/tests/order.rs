@@ -5,6 +5,7 @@ use ups_tests::netfile;
 use ups_tests::nets::{self, Numbers};
 use ups_tests::oracle::{self, LIMIT};
 use ups_tests::random::Random;
+use ups_tests::record::{self, RECORD};
 use ups_tests::refinement;
 
 const MAX: usize = usize::MAX;
@@ -44,7 +45,7 @@ fn lengthen(call: &mut Call) {
     if refines(call.ask) {
         return;
     }
-    call.net.resize(9 * call.w * call.h, 0);
+    call.net.resize(record::numbers((call.w, call.h)), 0);
     if matches!(call.ask, Ask::Write { .. }) {
         call.out_len = netfile::file_len(call.w, call.h).expect("a length");
     }
@@ -139,12 +140,12 @@ fn net_faults() -> Vec<Fault> {
     vec![
         // One number missing, where the size allows a net to be lent.
         |c| {
-            let needed = c.w.checked_mul(c.h).and_then(|n| n.checked_mul(9));
+            let needed = c.w.checked_mul(c.h).and_then(|n| n.checked_mul(RECORD));
             let len = needed.unwrap_or(0).saturating_sub(1);
             c.net.truncate(len);
         },
         // The first vertex only, which holds the number that may be beyond its range.
-        |c| c.net.truncate(9),
+        |c| c.net.truncate(RECORD),
         |c| c.net.clear(),
     ]
 }
@@ -303,11 +304,11 @@ fn random_calls() {
         };
         let (w, h) = (side(), side());
         let lendable = w.checked_mul(h).filter(|&n| n <= 4 * 1026).unwrap_or(4);
-        let mut net: Vec<i32> = (0..9 * lendable)
+        let mut net: Vec<i32> = (0..RECORD * lendable)
             .map(|_| nets::random_number(&mut random, Numbers::Mixed))
             .collect();
         if random.below(8) == 0 {
-            net.truncate(net.len().saturating_sub(1 + random.below(9)));
+            net.truncate(net.len().saturating_sub(1 + random.below(RECORD)));
         }
         if random.below(4) == 0 && !net.is_empty() {
             let position = random.below(net.len());

@@ -5,6 +5,7 @@ use ups_tests::nets::{self, NUMBERS};
 use ups_tests::oracle::{self, triangles_at, Net, EDGE};
 use ups_tests::random::Random;
 use ups_tests::rational::Rational;
+use ups_tests::record;
 
 #[test]
 fn the_point_lies_between_the_control_values_of_each_triangle_that_holds_it() {
@@ -55,7 +56,7 @@ fn a_constant_net_gives_its_constant_everywhere() {
     let mut random = Random::new(43);
     for value in [0, 1, -1, 7, -50, oracle::LIMIT, -oracle::LIMIT] {
         let size = (4, 3);
-        let lent = LentNet::new(&vec![value; 9 * size.0 * size.1]);
+        let lent = LentNet::new(&vec![value; record::numbers(size)]);
         for place in nets::places(&mut random, size) {
             assert_eq!(lent.surface_point(size, place, 3), Ok([value; 3]));
         }

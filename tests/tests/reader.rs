@@ -7,10 +7,12 @@ use ups_tests::nets::{self, Numbers};
 use ups_tests::oracle::LIMIT;
 use ups_tests::pages::Side;
 use ups_tests::random::Random;
+use ups_tests::record::{self, RECORD};
 
 const SIZE: (usize, usize) = (2, 2);
-/// Numbers, words and bytes of a 2 by 2 file.
-const NUMBERS: usize = 36;
+/// Numbers of a 2 by 2 net.
+const NUMBERS: usize = record::numbers(SIZE);
+/// Words and bytes of its file.
 const WORDS: usize = 39;
 const BYTES: usize = 156;
 /// The greatest payload.
@@ -82,7 +84,7 @@ fn one_width_or_height_outside_2_to_1025() {
 fn one_not_for_sides_from_2_to_1025() {
     for side in [2, 3, 4, 1024, 1025] {
         for (w, h) in [(side, 2), (2, side)] {
-            let count = 9 * w * h;
+            let count = record::numbers((w, h));
             let file = netfile::file(&vec![0; count], (w, h));
             Reading::new(&file, count).expect(0);
         }
@@ -93,7 +95,8 @@ fn one_not_for_sides_from_2_to_1025() {
 fn three_each_number_beyond_its_range() {
     let words = words();
     let limit = i64::from(LIMIT);
-    for position in 0..NUMBERS {
+    // All words but the two sides and the end.
+    for position in 0..WORDS - 3 {
         let expect_value = |value, refusal| {
             let word = netfile::word(netfile::number_kind(position), value);
             expect_with(&words, 2 + position, word, refusal);
@@ -115,7 +118,7 @@ fn five_net_slice_too_short() {
     for net_len in 0..NUMBERS {
         Reading::new(&file, net_len).expect(5);
     }
-    for net_len in [NUMBERS, NUMBERS + 1, NUMBERS + 9, 1000] {
+    for net_len in [NUMBERS, NUMBERS + 1, NUMBERS + RECORD, 1000] {
         Reading::new(&file, net_len).expect(0);
     }
 }
@@ -213,11 +216,13 @@ fn eight_each_number_left_out_or_doubled() {
 
 #[test]
 fn eight_where_the_size_does_not_fit_the_numbers() {
+    // More than any of the told sizes needs.
+    let room = record::numbers((4, 5)) + 20;
     for (size, told) in [((2, 3), (2, 2)), ((2, 2), (2, 3)), ((4, 4), (4, 5))] {
-        let mut words = netfile::words(&vec![0; 9 * size.0 * size.1], size);
+        let mut words = netfile::words(&vec![0; record::numbers(size)], size);
         words[0] = netfile::word(WIDTH, told.0);
         words[1] = netfile::word(HEIGHT, told.1);
-        Reading::new(&netfile::bytes(&words), 200).expect(8);
+        Reading::new(&netfile::bytes(&words), room).expect(8);
     }
 }
 

@@ -4,9 +4,10 @@ use ups_tests::call::Reading;
 use ups_tests::netfile;
 use ups_tests::nets;
 use ups_tests::oracle::LIMIT;
+use ups_tests::record;
 
-/// Numbers and words of a 2 by 2 file.
-const NUMBERS: usize = 36;
+/// Numbers of a 2 by 2 net and words of its file.
+const NUMBERS: usize = record::numbers((2, 2));
 const WORDS: usize = 39;
 const END: usize = WORDS - 1;
 

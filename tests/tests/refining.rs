@@ -4,6 +4,7 @@ use ups_tests::kernel::{LentNet, Number, Room};
 use ups_tests::nets::{self, Numbers, NUMBERS};
 use ups_tests::oracle::LIMIT;
 use ups_tests::random::Random;
+use ups_tests::record::{self, RECORD};
 use ups_tests::refinement;
 
 type Size = (usize, usize);
@@ -13,7 +14,7 @@ fn same(refined: &[i32], expected: &[i32], (w, _): Size, what: &str) {
     assert_eq!(refined.len(), expected.len(), "{what}");
     let differ = |n: &usize| refined[*n] != expected[*n];
     if let Some(n) = (0..expected.len()).find(differ) {
-        let (vertex, number) = (n / 9, n % 9);
+        let (vertex, number) = (n / RECORD, n % RECORD);
         panic!(
             "{what}: number {number} of vertex ({}, {}) is {}, expected {}",
             vertex % w,
@@ -46,7 +47,7 @@ fn random_nets() {
             _ => (3 + random.below(14), 2),
         };
         let numbers = nets::random_net(&mut random, size, kind);
-        let extra = random.pick(&[0, 1, 8, 9, 100]);
+        let extra = random.pick(&[0, 1, RECORD - 1, RECORD, 100]);
         check(&numbers, size, k, extra);
     }
 }
@@ -67,9 +68,10 @@ fn every_small_size() {
 /// Each number of a cell alone, so that every weight and its rounding is seen by itself.
 #[test]
 fn one_number_at_a_time() {
-    for position in 0..36 {
+    let count = record::numbers((2, 2));
+    for position in 0..count {
         for value in (-12..=12).chain([LIMIT, -LIMIT, LIMIT - 1, 1 - LIMIT]) {
-            let mut numbers = vec![0; 36];
+            let mut numbers = vec![0; count];
             numbers[position] = value;
             check(&numbers, (2, 2), 1, 0);
             check(&numbers, (2, 2), 2, 0);
@@ -120,7 +122,7 @@ fn a_constant_net_stays_constant() {
     for value in [0, 1, -1, 7, LIMIT, -LIMIT] {
         for k in 0..=6 {
             let size = (3, 2);
-            let lent = LentNet::new(&vec![value; 54]);
+            let lent = LentNet::new(&vec![value; record::numbers(size)]);
             let room = Room::of_steps(size, k, 0);
             let refined = lent.refine(size, k, room).expect("accepted");
             assert!(refined.iter().all(|&x| x == value), "{value}, {k} steps");
@@ -204,7 +206,7 @@ fn fewer_than_two_steps_leave_the_scratch_alone() {
             let fine = refinement::refined_size(size, k).expect("a size");
             let out_len = refinement::refined_len(size, k).expect("a length");
             let expected = refinement::refined(&numbers, size, k);
-            for scratch_len in [0, 1, 9, numbers.len(), out_len, 2 * out_len] {
+            for scratch_len in [0, 1, RECORD, numbers.len(), out_len, 2 * out_len] {
                 for junk in JUNK {
                     let room = Room {
                         out_len,
@@ -238,7 +240,7 @@ fn longer_outputs_are_changed_only_at_their_fronts() {
                 (0, 0),
                 (1, 0),
                 (0, 1),
-                (9, 100),
+                (RECORD, 100),
                 // A scratch as long as the result, and both much longer than needed.
                 (0, exact.out_len - exact.scratch_len),
                 (exact.out_len, exact.out_len),

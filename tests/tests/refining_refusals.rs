@@ -6,6 +6,7 @@ use ups_tests::kernel::{LentNet, Room};
 use ups_tests::nets::{self, Numbers};
 use ups_tests::oracle::LIMIT;
 use ups_tests::random::Random;
+use ups_tests::record;
 use ups_tests::refinement::{refined_len, scratch_len};
 
 const MAX: usize = usize::MAX;
@@ -46,7 +47,7 @@ fn expect_in(net: &LentNet, size: (usize, usize), k: usize, room: Room, refusal:
 #[test]
 fn four_more_than_six_steps() {
     // Room for the nets after seven and after eight steps, whose sides are below 1,025.
-    let room = Room::new(9 * 257 * 257, 9 * 129 * 129);
+    let room = Room::new(record::numbers((257, 257)), record::numbers((129, 129)));
     let net = LentNet::new(&nets::door_corner(120));
     for k in 0..=6 {
         expect_in(&net, (2, 2), k, room, 0);
@@ -83,7 +84,7 @@ fn four_refined_side_above_1025() {
         (6, 17),
     ] {
         for (side, refusal) in [(longest, 0), (longest + 1, if k == 0 { 1 } else { 4 })] {
-            let net = LentNet::new(&vec![-LIMIT; 9 * side * 2]);
+            let net = LentNet::new(&vec![-LIMIT; record::numbers((side, 2))]);
             for size in [(side, 2), (2, side)] {
                 expect_in(&net, size, k, Room::of_steps(size, k, 0), refusal);
             }
@@ -93,12 +94,12 @@ fn four_refined_side_above_1025() {
 
 #[test]
 fn four_for_the_width_alone_and_for_the_height_alone() {
-    let net = LentNet::new(&vec![0; 9 * 18 * 17]);
+    let net = LentNet::new(&vec![0; record::numbers((18, 17))]);
     for size in [(18, 17), (17, 18)] {
         expect_in(&net, size, 6, Room::new(1000, 1000), 4);
     }
     // The refined net has far fewer numbers than one of 1,025 by 1,025.
-    let net = LentNet::new(&vec![0; 9 * 1025 * 2]);
+    let net = LentNet::new(&vec![0; record::numbers((1025, 2))]);
     for size in [(1025, 2), (2, 1025), (514, 2), (2, 514)] {
         expect_in(&net, size, 1, Room::of_steps(size, 1, 0), 4);
     }
@@ -156,7 +157,7 @@ fn five_each_shorter_scratch() {
 #[test]
 fn five_one_short_for_every_number_of_steps() {
     let size = (3, 2);
-    let net = LentNet::new(&vec![LIMIT; 54]);
+    let net = LentNet::new(&vec![LIMIT; record::numbers(size)]);
     for k in 0..=6 {
         let exact = Room::of_steps(size, k, 0);
         expect_in(&net, size, k, exact, 0);

@@ -4,10 +4,11 @@ use ups_tests::call::{Ask, Call, ASKS};
 use ups_tests::nets::{self, Numbers};
 use ups_tests::oracle::{chosen_triangle, Kind, Triangle, EDGE, LIMIT};
 use ups_tests::random::Random;
+use ups_tests::record::{self, RECORD};
 
 const MAX: usize = usize::MAX;
 const SIZE: (usize, usize) = (4, 3);
-/// Unsigned numbers whose lower bits alone, or whose product with 9 or 1024, would be small.
+/// Unsigned numbers whose lower bits alone, or whose product with RECORD or 1024, would be small.
 const WIDE: [usize; 6] = [1 << 32, (1 << 32) + 2, 1 << 54, 1 << 60, 1 << 63, MAX - 1];
 const BEYOND: [i32; 4] = [LIMIT + 1, -LIMIT - 1, i32::MIN, i32::MAX];
 
@@ -43,16 +44,16 @@ fn all_triangles() -> Vec<Triangle> {
     all
 }
 
-/// The positions of a vertex's nine numbers.
+/// The positions of a vertex's numbers.
 fn positions((i, j): (i128, i128)) -> std::ops::Range<usize> {
-    let start = 9 * (j as usize * SIZE.0 + i as usize);
-    start..start + 9
+    let start = RECORD * (j as usize * SIZE.0 + i as usize);
+    start..start + RECORD
 }
 
 #[test]
 fn one_sides_outside_2_to_1025() {
     // Long enough for 1,026 by 4 and for 4 by 1,026.
-    let long = vec![0; 9 * 1026 * 4];
+    let long = vec![0; record::numbers((1026, 4))];
     for ask in ASKS {
         for side in [2, 3, 1024, 1025] {
             Call::new(&long, (side, 4), ask).expect(0);
@@ -73,7 +74,10 @@ fn two_net_too_short() {
     let net = net();
     for ask in ASKS {
         Call::new(&net, SIZE, ask).expect(0);
-        for len in [net.len() - 1, net.len() - 9, 9 * SIZE.0 * 2, 27, 9, 8, 1, 0] {
+        for missing in [1, RECORD, record::numbers((SIZE.0, 1))] {
+            Call::new(&net[..net.len() - missing], SIZE, ask).expect(2);
+        }
+        for len in [3 * RECORD, RECORD, RECORD - 1, 1, 0] {
             Call::new(&net[..len], SIZE, ask).expect(2);
         }
     }
@@ -201,7 +205,7 @@ fn six_no_such_place() {
 
 #[test]
 fn six_at_the_smallest_and_the_greatest_sides() {
-    let long = vec![0; 9 * 1025 * 2];
+    let long = vec![0; record::numbers((1025, 2))];
     for (w, h) in [(2, 2), (1025, 2), (2, 1025)] {
         let (last_p, last_q) = (1024 * (w - 1), 1024 * (h - 1));
         for (p, q, refusal) in [
@@ -322,7 +326,7 @@ fn three_shows_the_chosen_triangle() {
 #[test]
 fn the_vertex_call_tests_no_numbers_range() {
     for value in BEYOND {
-        let net = vec![value; 9 * SIZE.0 * SIZE.1];
+        let net = vec![value; record::numbers(SIZE)];
         for j in 0..SIZE.1 {
             for i in 0..SIZE.0 {
                 Call::new(&net, SIZE, Ask::Vertex { i, j }).expect(0);

@@ -6,7 +6,7 @@ use Prim.Native.Nat.{ℕ, _-_}
 use lib.Dec.{leb, ltb}
 use lib.IntN.{ℤ, pos}
 use lib.ListN.{replicate, set}
-use Rattle.net.specs.Net.{triangleAt}
+use Rattle.net.specs.Net.{triangleAt, numbers}
 use Rattle.net.specs.TurnedAway.{firstFault, badSize, shortNet}
 use Rattle.triangles.specs.TurnedAway.{triangleBeyond}
 
@@ -27,10 +27,10 @@ bezierRefusal net w h i j down room =
 
 -- worked cases: a missing triangle, and a number beyond the range at a vertex of the down triangle, with and without room
 abbrev noughts : List ℤ
-noughts = replicate 36 (pos 0)
+noughts = replicate (numbers 2 2) (pos 0)
 
 bezier-examples :
-    (bezierRefusal (set noughts 35 (pos 16777217)) 2 2 0 0 true 57 ≡ 3)
-    × (bezierRefusal (set noughts 35 (pos 16777217)) 2 2 0 0 true 56 ≡ 5)
+    (bezierRefusal (set noughts (numbers 2 2 - 1) (pos 16777217)) 2 2 0 0 true 57 ≡ 3)
+    × (bezierRefusal (set noughts (numbers 2 2 - 1) (pos 16777217)) 2 2 0 0 true 56 ≡ 5)
     × (bezierRefusal noughts 2 2 1 0 false 57 ≡ 6)
 bezier-examples = (refl, refl, refl)

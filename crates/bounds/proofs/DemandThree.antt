@@ -1,22 +1,21 @@
 -- Demand 3 of the definitions: the laws of distance and range, at edge count 1,024, for our table and the fields of a net that is taken.
-use mathlib.Core.Path.{_≡_, refl, sym, subst, _∙_}
+use mathlib.Core.Path.{_≡_, refl, sym, subst}
 use mathlib.Core.Bool.{Bool, true, false, cond}
 use mathlib.Core.List.{List, [], _∷_}
 use mathlib.Core.Logic.{⊎-elim}
-use Prim.Native.Nat.{ℕ, zero, suc, _+_, _*_, _≤_, _<_}
+use Prim.Native.Nat.{ℕ, zero, suc, _≤_, _<_}
 use native.Mathlib.Omega.{arith}
 use lib.Dec.{T, lit<}
 use lib.IntN.{ℤ, pos, negℤ, natAbs}
-use lib.ListN.{length, getD, take, length-take}
-use lib.Seq.{getD-take}
+use lib.ListN.{length, getD}
 use lib.Signed.{_≤ℤ_, leZ, ≤ℤ-refl}
 use borrow.Author.Tests.{ltb-false}
 use Rattle.exact.specs.Rounding.{rounded}
 use Rattle.exact.proofs.Order.{≤ℤ-trans, ≤ℤ-total, size-low, size-high, size-between}
-use Rattle.net.specs.Net.{Index, one, two, three, rank, vertexAt, Field, numbers, start, field}
+use Rattle.net.specs.Net.{Index, one, two, three, vertexAt, Field, numbers, start, field, stride}
 use Rattle.net.specs.TurnedAway.{AcceptedNet}
-use Rattle.net.proofs.Places.{good-size, vertex-ends, nine-numbers, field-number}
-use Rattle.net.proofs.Ranges.{in-range}
+use Rattle.net.proofs.Places.{good-size, vertex-ends, field-size}
+use Rattle.net.proofs.Ranges.{part-in-range}
 use Rattle.triangles.specs.BezierPoints.{Controls, controlsOf, controlList}
 use Rattle.spline.specs.Spline.{spline}
 use Rattle.subdivision.specs.Refinement.{sideAfter}
@@ -76,14 +75,10 @@ demand-three net w h a k p q x c g =
 accepted-value : (net : List ℤ) (w h : ℕ) → AcceptedNet net w h → (x : ℕ) → x < 3 → (i j : ℕ) → i < w → j < h → (l : Index) →
     natAbs (field net w x (vertexAt i j) l) ≤ 16777216
 accepted-value net w h a x c i j u v l =
-    let at = start w (vertexAt i j) + (3 * rank l + x) in
+    let s = start w (vertexAt i j) in
     let ends = vertex-ends {w = w} {h = h} {i = i} {j = j} u v in
-    let here : at < numbers w h = omega (arith, ends, nine-numbers l x c) in
     let long = ltb-false (length net) (numbers w h) (a .long) in
-    let all : length (take (numbers w h) net) ≡ numbers w h = omega (arith, length-take (numbers w h) net, long) in
-    subst (λ (z : ℤ). natAbs z ≤ 16777216)
-    (getD-take (numbers w h) net at (pos 0) here ∙ sym (field-number net w (vertexAt i j) l x c))
-    (in-range (take (numbers w h) net) (a .inRange) at (omega (arith, all, here)))
+    field-size net w (vertexAt i j) (part-in-range net w h s stride (a .inRange) ends) (omega (arith, ends, long)) l x c
 
 pub refined-in-range : RefinedInRange
 refined-in-range T e net w h a k i j x c u v l =

@@ -7,7 +7,7 @@ use Prim.Native.Nat.{ℕ}
 use lib.IntN.{ℤ, pos, negsuc, _+ℤ_, _-ℤ_, _*ℤ_}
 use Rattle.exact.specs.Rounding.{rounded, floorQuotient}
 use Rattle.exact.specs.Filling.{runs}
-use Rattle.net.specs.Net.{one, two, three, vertexAt, triangleAt, controlPoint, controlTriangle, field}
+use Rattle.net.specs.Net.{one, two, three, vertexAt, triangleAt, controlPoint, controlTriangle, grid, field}
 use Rattle.triangles.specs.BezierPoints.{controlsOf}
 use Rattle.spline.specs.Spline.{spline}
 use Rattle.bezier.specs.BezierNet.{bezierPoints}
@@ -80,5 +80,5 @@ cases =
 
 -- every case holds
 pub marked-cases : map (λ (c : Case). c .0) cases ≡ map (λ (c : Case). c .1) cases
-unfolding cases coordinate spline refinedNet stored runs refinement exactRefinement rounded floorQuotient bezierPoints controlTriangle controlPoint wordBytes
+unfolding cases coordinate spline refinedNet stored grid runs refinement exactRefinement rounded floorQuotient bezierPoints controlTriangle controlPoint wordBytes
 marked-cases = refl

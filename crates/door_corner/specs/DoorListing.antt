@@ -5,7 +5,8 @@ use Prim.Native.Nat.{ℕ}
 use lib.IntN.{pos}
 use Rattle.exact.specs.Filling.{runs}
 use Rattle.exact.specs.Rounding.{rounded, floorQuotient}
-use Rattle.net.specs.Net.{controlPoint, controlTriangle}
+use Rattle.net.specs.Net.{controlPoint, controlTriangle, grid}
+use Rattle.net.specs.TurnedAway.{netBeyond}
 use Rattle.spline.specs.Spline.{spline}
 use Rattle.surface.specs.SurfacePoint.{coordinate}
 use Rattle.subdivision.specs.Refinement.{refinement, exactRefinement}
@@ -42,10 +43,10 @@ doorText =
     ∷ []
 
 pub door-listing : listing (refinedNet (doorCorner (pos 120)) 2 2 1) 3 3 ≡ doorText
-unfolding listing headLine pointLine signedDecimal decimal digitsOf runs refinedNet stored coordinate spline refinement exactRefinement rounded floorQuotient controlTriangle controlPoint
+unfolding listing headLine pointLine signedDecimal decimal digitsOf runs refinedNet stored grid coordinate spline refinement exactRefinement rounded floorQuotient controlTriangle controlPoint
 door-listing = refl
 
 -- and of the net's file that is what is printed
 pub door-input : printed (netFile (doorCorner (pos 120)) 2 2) ≡ doorText
-unfolding netFile wordBytes pointBytes firstWord firstPoint listing headLine pointLine signedDecimal decimal digitsOf runs refinedNet stored coordinate spline refinement exactRefinement rounded floorQuotient controlTriangle controlPoint
+unfolding netBeyond netFile wordBytes pointBytes firstWord firstPoint listing headLine pointLine signedDecimal decimal digitsOf runs refinedNet stored grid coordinate spline refinement exactRefinement rounded floorQuotient controlTriangle controlPoint
 door-input = refl

@@ -3,15 +3,16 @@ use mathlib.Core.Path.{_≡_, refl, sym, ap, _∙_}
 use mathlib.Core.Bool.{Bool, true, false, cond}
 use mathlib.Core.List.{List, [], _∷_}
 use Prim.Native.Nat.{ℕ, _+_, _*_, _≤_, _<_}
+use native.Mathlib.Nat.{le-refl}
 use native.Mathlib.Omega.{arith}
 use lib.Dec.{ltb}
 use lib.IntN.{ℤ, pos}
 use lib.ListN.{length, take, drop, length-take}
 use lib.Seq.{take-take, take-add, drop-at, getD-take, length-take-le}
 use borrow.Author.Tests.{lt-ltb, le-ltb, ltb-true, ltb-false, eqb-true}
-use Rattle.net.specs.Net.{Index, Vertex, vertexAt, numbers, start, vertexNumbers, rank, field}
-use Rattle.net.specs.TurnedAway.{accepted, badSize, noVertex, shortNet, vertexRefusal, vertexPart, firstFault}
-use Rattle.net.proofs.Places.{good-vertex, vertex-ends, field-number, nine-numbers}
+use Rattle.net.specs.Net.{Index, Vertex, vertexAt, numbers, start, vertexNumbers, rank, field, stride, pointStride}
+use Rattle.net.specs.TurnedAway.{anyBeyond, netBeyond, accepted, badSize, noVertex, shortNet, vertexRefusal, vertexPart, firstFault}
+use Rattle.net.proofs.Places.{good-vertex, vertex-ends, field-number, within-record}
 
 -- the first 9wh numbers
 abbrev pub cut : List ℤ → ℕ → ℕ → List ℤ
@@ -41,23 +42,27 @@ cut-short net w h = by (ltb (length net) (numbers w h)) refl
         let l = ltb-false (length net) (numbers w h) e in
         e ∙ sym (le-ltb (length (take (numbers w h) net)) (numbers w h) (omega (arith, l, length-take (numbers w h) net)))
 
+pub cut-beyond : (net : List ℤ) (w h : ℕ) → netBeyond net w h ≡ netBeyond (cut net w h) w h
+unfolding netBeyond
+cut-beyond net w h = ap anyBeyond (sym (take-take (numbers w h) (numbers w h) net (le-refl (numbers w h))))
+
 -- a part from the front of a list is the end of the list's first numbers
 part-of-front : (l : List ℤ) (at n : ℕ) → at ≤ length l → take n (drop at l) ≡ drop at (take (at + n) l)
 part-of-front l at n h =
     sym (ap (drop at) (take-add at n l) ∙ drop-at (take at l) (take n (drop at l)) at (length-take-le at l h))
 
-pub cut-vertex : (net : List ℤ) (w h : ℕ) (v : Vertex) → start w v + 9 ≤ numbers w h → numbers w h ≤ length net →
+pub cut-vertex : (net : List ℤ) (w h : ℕ) (v : Vertex) → start w v + stride ≤ numbers w h → numbers w h ≤ length net →
     vertexNumbers net w v ≡ vertexNumbers (cut net w h) w v
 cut-vertex net w h v e l =
-    part-of-front net (start w v) 9 (omega (arith, e, l))
-    ∙ ap (drop (start w v)) (sym (take-take (start w v + 9) (numbers w h) net e))
-    ∙ sym (part-of-front (cut net w h) (start w v) 9 (omega (arith, e, l, length-take (numbers w h) net)))
+    part-of-front net (start w v) stride (omega (arith, e, l))
+    ∙ ap (drop (start w v)) (sym (take-take (start w v + stride) (numbers w h) net e))
+    ∙ sym (part-of-front (cut net w h) (start w v) stride (omega (arith, e, l, length-take (numbers w h) net)))
 
-pub cut-field : (net : List ℤ) (w h : ℕ) (v : Vertex) → start w v + 9 ≤ numbers w h → (k : Index) (x : ℕ) → x < 3 →
+pub cut-field : (net : List ℤ) (w h : ℕ) (v : Vertex) → start w v + stride ≤ numbers w h → (k : Index) (x : ℕ) → x < 3 →
     field net w x v k ≡ field (cut net w h) w x v k
 cut-field net w h v e k x b =
     field-number net w v k x b
-    ∙ sym (getD-take (numbers w h) net (start w v + (3 * rank k + x)) (pos 0) (omega (arith, e, nine-numbers k x b)))
+    ∙ sym (getD-take (numbers w h) net (start w v + (pointStride * rank k + x)) (pos 0) (omega (arith, e, within-record k x b)))
     ∙ sym (field-number (cut net w h) w v k x b)
 
 -- ---- the vertex part and its companion

@@ -2,4 +2,5 @@
 pub mod Faults
 pub mod Ranges
 pub mod Places
+pub mod Grids
 pub mod Beyond

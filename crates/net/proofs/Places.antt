@@ -14,7 +14,7 @@ use lib.Seq.{sets, getD-take, getD-drop}
 use borrow.Author.Tests.{ltb-false, leb-false}
 use Rattle.exact.specs.Filling.{runs}
 use Rattle.exact.proofs.FillingLaws.{array-elements}
-use Rattle.net.specs.Net.{Index, one, two, three, rank, Vertex, vertexAt, numbers, start, vertexNumbers, number, controlPoint, controlTriangle, field}
+use Rattle.net.specs.Net.{Index, one, two, three, rank, Vertex, vertexAt, numbers, start, vertexNumbers, number, controlPoint, controlTriangle, field, stride, pointStride}
 use Rattle.net.specs.TurnedAway.{badSide, badSize, noVertex, shortNet, anyBeyond, vertexRefusal, vertexPart}
 use Rattle.net.proofs.Faults.{or-none, fault-none, when-accepted, when-refused}
 use Rattle.net.proofs.Ranges.{in-range}
@@ -42,7 +42,7 @@ pub few-vertices : {w h : ℕ} → GoodSize w h → w * h ≤ 1050625
 few-vertices s = mul-le-mul (s .narrow) (s .low)
 
 -- the numbers of a vertex end within the net
-pub vertex-ends : {w h i j : ℕ} → i < w → j < h → start w (vertexAt i j) + 9 ≤ numbers w h
+pub vertex-ends : {w h i j : ℕ} → i < w → j < h → start w (vertexAt i j) + stride ≤ numbers w h
 vertex-ends {w} {h} {i} {j} a b =
     let place : j * w + i < h * w = digits-lt b a in
     let turned : h * w ≡ w * h = mul-comm h w in
@@ -70,7 +70,7 @@ good-vertex net w h i j e =
 
 -- its numbers lie in the net, and their places are small numbers
 pub vertex-lies : (net : List ℤ) (w h i j : ℕ) → GoodVertex net w h i j →
-    (start w (vertexAt i j) + 9 ≤ length net) × (start w (vertexAt i j) + 9 ≤ 9455625)
+    (start w (vertexAt i j) + stride ≤ length net) × (start w (vertexAt i j) + stride ≤ stride * 1050625)
 vertex-lies net w h i j v =
     let ends = vertex-ends {w = w} {h = h} {i = i} {j = j} (v .column) (v .row) in
     let few = few-vertices (v .size) in
@@ -104,28 +104,28 @@ point-number net at (suc (suc zero)) h = refl
 point-number net at (suc (suc (suc x))) h = absurd (omega (arith, h))
 
 pub field-number : (net : List ℤ) (w : ℕ) (v : Vertex) (k : Index) (x : ℕ) → x < 3 →
-    field net w x v k ≡ number net (start w v + (3 * rank k + x))
+    field net w x v k ≡ number net (start w v + (pointStride * rank k + x))
 unfolding controlTriangle
 field-number net w v one x h = point-number net (start w v) x h ∙ ap (number net) (omega arith)
-field-number net w v two x h = point-number net (start w v + 3) x h ∙ ap (number net) (omega arith)
-field-number net w v three x h = point-number net (start w v + 6) x h ∙ ap (number net) (omega arith)
+field-number net w v two x h = point-number net (start w v + pointStride) x h ∙ ap (number net) (omega arith)
+field-number net w v three x h = point-number net (start w v + 2 * pointStride) x h ∙ ap (number net) (omega arith)
 
--- the last of the nine numbers is the ninth
-pub nine-numbers : (k : Index) (x : ℕ) → x < 3 → 3 * rank k + x < 9
-nine-numbers one x h = omega (arith, h)
-nine-numbers two x h = omega (arith, h)
-nine-numbers three x h = omega (arith, h)
+-- the numbers of a control point lie within the vertex's
+pub within-record : (k : Index) (x : ℕ) → x < 3 → pointStride * rank k + x < stride
+within-record one x h = omega (arith, h)
+within-record two x h = omega (arith, h)
+within-record three x h = omega (arith, h)
 
 -- the numbers of a vertex in range
-pub field-size : (net : List ℤ) (w : ℕ) (v : Vertex) → anyBeyond (vertexNumbers net w v) ≡ false → start w v + 9 ≤ length net →
+pub field-size : (net : List ℤ) (w : ℕ) (v : Vertex) → anyBeyond (vertexNumbers net w v) ≡ false → start w v + stride ≤ length net →
     (k : Index) (x : ℕ) → x < 3 → natAbs (field net w x v k) ≤ 16777216
 field-size net w v e l k x h =
-    let at = 3 * rank k + x in
-    let here = nine-numbers k x h in
+    let at = pointStride * rank k + x in
+    let here = within-record k x h in
     let long : at < length (vertexNumbers net w v) =
-    omega (arith, length-take 9 (drop (start w v) net), length-drop (start w v) net, l, here) in
+    omega (arith, length-take stride (drop (start w v) net), length-drop (start w v) net, l, here) in
     let same : number (vertexNumbers net w v) at ≡ field net w x v k =
-    getD-take 9 (drop (start w v) net) at (pos 0) here
+    getD-take stride (drop (start w v) net) at (pos 0) here
     ∙ getD-drop (start w v) net at (pos 0)
     ∙ sym (field-number net w v k x h) in
     subst (λ (z : ℤ). natAbs z ≤ 16777216) same (in-range (vertexNumbers net w v) e at long)

@@ -13,7 +13,8 @@ use lib.Seq.{drop-cons, take-add}
 use lib.Signed.{_≤ℤ_, _<ℤ_, ltZ}
 use borrow.Author.Tests.{lt-ltb, le-ltb, ltb-false}
 use Rattle.exact.specs.Filling.{runs}
-use Rattle.net.specs.TurnedAway.{beyond, anyBeyond}
+use Rattle.net.specs.Net.{numbers}
+use Rattle.net.specs.TurnedAway.{beyond, anyBeyond, netBeyond}
 use Rattle.net.proofs.Faults.{or-none, or-no, or-yes}
 
 pub beyond-below : (z : ℤ) → z <ℤ negsuc 16777215 → true ≡ beyond z
@@ -57,3 +58,18 @@ pub any-longer : (l : List ℤ) (a b : ℕ) → a ≤ b → anyBeyond (take a l)
 any-longer l a b h e =
     let rest : a + (b - a) ≡ b = omega arith in
     or-yes (anyBeyond (take a l)) (anyBeyond (take (b - a) (drop a l))) e ∙ sym (any-front l a (b - a)) ∙ ap (λ (k : ℕ). anyBeyond (take k l)) rest
+
+-- ---- a whole net: any part of the numbers of a net in range is in range, and a net is in range where its first numbers are
+
+pub part-in-range : (net : List ℤ) (w h at m : ℕ) → netBeyond net w h ≡ false → at + m ≤ numbers w h → anyBeyond (take m (drop at net)) ≡ false
+unfolding netBeyond
+part-in-range net w h at m e a =
+    let n = numbers w h in
+    let all : at + m + (n - (at + m)) ≡ n = omega arith in
+    let whole = ap (λ (k : ℕ). anyBeyond (take k net)) all ∙ e in
+    let front = or-none (anyBeyond (take (at + m) net)) _ (sym (any-front net (at + m) (n - (at + m))) ∙ whole) .0 in
+    or-none (anyBeyond (take at net)) _ (sym (any-front net at m) ∙ front) .1
+
+pub front-in-range : (net : List ℤ) (w h : ℕ) {l : List ℤ} → take (numbers w h) net ≡ l → anyBeyond l ≡ false → netBeyond net w h ≡ false
+unfolding netBeyond
+front-in-range net w h e f = ap anyBeyond e ∙ f

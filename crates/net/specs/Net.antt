@@ -5,6 +5,7 @@ use mathlib.Core.List.{List, [], _∷_, _++_}
 use Prim.Native.Nat.{ℕ, zero, suc, _+_, _*_}
 use lib.ListN.{getD, take, drop}
 use lib.IntN.{ℤ, pos, negsuc, _+ℤ_}
+use Rattle.exact.specs.Filling.{runs}
 
 -- 'Indices 1, 2, 3 run in a circle': of the steps, of the controls of a vertex, and of the corners of a triangle
 pub data Index : Type 0 where
@@ -101,19 +102,32 @@ corner t = cornerOf (t .down) (t .column) (t .row)
 abbrev pub Field : Type 0
 Field = Vertex → Index → ℤ
 
--- 'per vertex c1, c2, c3, each x, y, z': so many numbers a vertex has
+-- 'per vertex c1, c2, c3, each x, y, z': so many numbers a control point has, and so many a vertex
+abbrev pub pointStride : ℕ
+pointStride = 3
+
 abbrev pub stride : ℕ
-stride = 9
+stride = 3 * pointStride
+
+-- 'stores vertices row by row': where the record of a vertex begins where each vertex has n numbers, and the records one after the other
+abbrev pub recordStart : ℕ → ℕ → Vertex → ℕ
+recordStart n w v = n * (v .row * w + v .column)
+
+abbrev pub gridRow : (Vertex → List ℤ) → ℕ → ℕ → List ℤ
+gridRow f w j = runs w (λ i. f (vertexAt i j))
+
+unfoldable pub grid : (Vertex → List ℤ) → ℕ → ℕ → List ℤ
+grid f w h = runs h (gridRow f w)
 
 -- so many numbers a net of width w and height h has, document 01's 9wh
 abbrev pub numbers : ℕ → ℕ → ℕ
 numbers w h = stride * (w * h)
 
--- where the numbers of a vertex begin: vertices are stored row by row
+-- where the numbers of a vertex begin
 abbrev pub start : ℕ → Vertex → ℕ
-start w v = stride * (v .row * w + v .column)
+start = recordStart stride
 
--- the nine numbers of a vertex, that part of the slice
+-- the numbers of a vertex, that part of the slice
 abbrev pub vertexNumbers : List ℤ → ℕ → Vertex → List ℤ
 vertexNumbers net w v = take stride (drop (start w v) net)
 
@@ -128,7 +142,7 @@ controlPoint net at = number net at ∷ number net (at + 1) ∷ number net (at +
 -- the control triangle of a vertex, an array of three arrays of three numbers
 unfoldable pub controlTriangle : List ℤ → ℕ → Vertex → List (List ℤ)
 controlTriangle net w v =
-    controlPoint net (start w v) ∷ controlPoint net (start w v + 3) ∷ controlPoint net (start w v + 6) ∷ []
+    controlPoint net (start w v) ∷ controlPoint net (start w v + pointStride) ∷ controlPoint net (start w v + 2 * pointStride) ∷ []
 
 -- number x (0, 1, 2 for x, y, z) of control k of a control triangle
 abbrev pub entry : List (List ℤ) → Index → ℕ → ℤ
@@ -139,7 +153,8 @@ abbrev pub field : List ℤ → ℕ → ℕ → Field
 field net w x v k = entry (controlTriangle net w v) k x
 
 -- worked cases: the steps add up to zero; the down triangle of cell (3, 5); a net of 4 by 3 has 108 numbers, and vertex (1, 2) of it begins at
--- number 81; y of control 2 of vertex (1, 0) of a net of width 2 is its number 13
+-- number 81; in a grid of 3 by 2 with two numbers a vertex, its column and its row, vertex (2, 1) begins at number 10; y of control 2 of vertex
+-- (1, 0) of a net of width 2 is its number 13
 steps-close :
     (stepColumn one +ℤ stepColumn two +ℤ stepColumn three ≡ pos 0) × (stepRow one +ℤ stepRow two +ℤ stepRow three ≡ pos 0)
 steps-close = (refl, refl)
@@ -152,6 +167,15 @@ down-corners = (refl, refl, refl)
 
 four-by-three : (numbers 4 3 ≡ 108) × (start 4 (vertexAt 1 2) ≡ 81)
 four-by-three = (refl, refl)
+
+abbrev places : List ℤ
+places = grid (λ v. pos (v .column) ∷ pos (v .row) ∷ []) 3 2
+
+two-a-vertex :
+    (places ≡ pos 0 ∷ pos 0 ∷ pos 1 ∷ pos 0 ∷ pos 2 ∷ pos 0 ∷ pos 0 ∷ pos 1 ∷ pos 1 ∷ pos 1 ∷ pos 2 ∷ pos 1 ∷ [])
+    × (recordStart 2 3 (vertexAt 2 1) ≡ 10)
+unfolding grid runs
+two-a-vertex = (refl, refl)
 
 abbrev counted : ℕ → List ℤ
 counted zero = []

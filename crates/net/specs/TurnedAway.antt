@@ -2,12 +2,12 @@
 use mathlib.Core.Path.{_≡_, refl}
 use mathlib.Core.Bool.{Bool, true, false, _||_, cond}
 use mathlib.Core.List.{List, [], _∷_, _++_}
-use Prim.Native.Nat.{ℕ}
+use Prim.Native.Nat.{ℕ, _+_, _-_}
 use lib.Dec.{leb, ltb, eqb}
 use lib.ListN.{length, replicate, take}
 use lib.IntN.{ℤ, pos, negsuc, natAbs}
 use Rattle.exact.specs.Filling.{over}
-use Rattle.net.specs.Net.{vertexAt, numbers, vertexNumbers}
+use Rattle.net.specs.Net.{vertexAt, stride, numbers, start, vertexNumbers}
 
 -- a fault: whether it is there, and its number
 abbrev pub Fault : Type 0
@@ -39,7 +39,7 @@ badSize w h = badSide w || badSide h
 abbrev pub noVertex : ℕ → ℕ → ℕ → ℕ → Bool
 noVertex w h i j = leb w i || leb h j
 
--- 2: a net shorter than nine times its vertices
+-- 2: a net shorter than its vertices' numbers
 abbrev pub shortNet : List ℤ → ℕ → ℕ → Bool
 shortNet net w h = ltb (length net) (numbers w h)
 
@@ -52,18 +52,22 @@ abbrev pub anyBeyond : List ℤ → Bool
 anyBeyond [] = false
 anyBeyond (z ∷ zs) = beyond z || anyBeyond zs
 
+-- of a whole net: one of its first numbers, those of its vertices
+unfoldable pub netBeyond : List ℤ → ℕ → ℕ → Bool
+netBeyond net w h = anyBeyond (take (numbers w h) net)
+
 -- a net that is taken: rows 1, 2 and 3 of document 01's table do not turn it away
 pub record AcceptedNet (net : List ℤ) (w h : ℕ) : Type 0 where
   pub size : badSize w h ≡ false
   pub long : shortNet net w h ≡ false
-  pub inRange : anyBeyond (take (numbers w h) net) ≡ false
+  pub inRange : netBeyond net w h ≡ false
 
 -- the companion of the vertex part: 1, 6, 2 or none
 abbrev pub vertexRefusal : List ℤ → ℕ → ℕ → ℕ → ℕ → ℕ
 vertexRefusal net w h i j =
     firstFault ((badSize w h, 1) ∷ (noVertex w h i j, 6) ∷ (shortNet net w h, 2) ∷ [])
 
--- the nine numbers of a vertex as that part of the net; a refused part is empty
+-- the numbers of a vertex as that part of the net; a refused part is empty
 unfoldable pub vertexPart : List ℤ → ℕ → ℕ → ℕ → ℕ → List ℤ
 vertexPart net w h i j =
     cond (accepted (vertexRefusal net w h i j)) (vertexNumbers net w (vertexAt i j)) []
@@ -74,7 +78,7 @@ examples :
     (vertexRefusal [] 1 2 0 0 ≡ 1)
     × (vertexRefusal (replicate 35 (pos 0)) 2 2 1 1 ≡ 2)
     × (vertexRefusal (replicate 35 (pos 0)) 2 2 2 1 ≡ 6)
-    × (vertexRefusal (replicate 36 (pos 0)) 2 2 1 1 ≡ 0)
+    × (vertexRefusal (replicate (numbers 2 2) (pos 0)) 2 2 1 1 ≡ 0)
     × (badSize 1025 1025 ≡ false)
     × (badSize 1026 2 ≡ true)
 examples = (refl, refl, refl, refl, refl, refl)
@@ -87,14 +91,22 @@ limits :
     (beyond (pos 16777217) ≡ true) × (beyond (pos 16777216) ≡ false) × (beyond (negsuc 16777215) ≡ false) × (beyond (negsuc 16777216) ≡ true)
 limits = (refl, refl, refl, refl)
 
-last-part : vertexPart (replicate 27 (pos 0) ++ replicate 10 (pos 7)) 2 2 1 1 ≡ replicate 9 (pos 7)
+last-part :
+    vertexPart (replicate (start 2 (vertexAt 1 1)) (pos 0) ++ replicate (stride + 1) (pos 7)) 2 2 1 1 ≡ replicate stride (pos 7)
 unfolding vertexPart
 last-part = refl
 
-no-part : vertexPart (replicate 37 (pos 7)) 2 2 1 2 ≡ []
+no-part : vertexPart (replicate (numbers 2 2) (pos 7)) 2 2 1 2 ≡ []
 unfolding vertexPart
 no-part = refl
 
--- worked case: a net of 2 by 2 with 36 numbers at the limit of the range is taken
-taken : AcceptedNet (replicate 36 (pos 16777216)) 2 2
+-- a net of 2 by 2 at the limit of the range is taken; one number beyond it counts, and one after the net does not
+taken : AcceptedNet (replicate (numbers 2 2) (pos 16777216)) 2 2
+unfolding netBeyond
 taken = record { size = refl; long = refl; inRange = refl }
+
+whole-nets :
+    (netBeyond (replicate (numbers 2 2) (pos 0) ++ pos 16777217 ∷ []) 2 2 ≡ false)
+    × (netBeyond (replicate (numbers 2 2 - 1) (pos 0) ++ pos 16777217 ∷ []) 2 2 ≡ true)
+unfolding netBeyond
+whole-nets = (refl, refl)

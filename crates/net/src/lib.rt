@@ -1,4 +1,5 @@
 // Nets of control triangles: sizes, vertices, storage and ranges.
+mod records;
 mod sizes;
 mod storage;
 mod vertices;
@@ -8,6 +9,8 @@ pub use vertices::vertex;
 pub use vertices::vertex_refusal;
 
 // For the crates above, which are seen to meet what these ask.
+pub use records::POINT_STRIDE;
+pub use records::STRIDE;
 pub use sizes::bad_side;
 pub use sizes::bad_size;
 pub use sizes::short_net;

@@ -1,4 +1,5 @@
 // The sizes that a net may have, and the numbers that it then needs.
+use crate::records::STRIDE;
 ghost use mathlib.Core.Path.{_≡_};
 ghost use mathlib.Core.Bool.{false};
 ghost use Rattle.net.specs.TurnedAway.{badSide, badSize, shortNet};
@@ -17,10 +18,10 @@ pub fn bad_size(w: usize, h: usize) -> bool
     if bad_side(w) { true } else { bad_side(h) }
 }
 
-// Whether a net of an accepted size is shorter than nine times its vertices. For the crates above; they test the size first.
+// Whether a net of an accepted size is shorter than its vertices need. For the crates above; they test the size first.
 pub fn short_net(net: &[i32], w: usize, h: usize) -> bool
     requires { ⌜ badSize w h ≡ false ⌝ }
     ensures { λ r. ⌜ r ≡ shortNet (now (net .entry)) w h ⌝ }
 {
-    net.len() < 9 * (w * h)
+    net.len() < STRIDE * (w * h)
 }

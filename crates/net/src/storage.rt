@@ -1,10 +1,13 @@
 // Control points and control triangles in lent memory: loading and storing them by value, and the test of their range.
+use crate::records::POINT_STRIDE;
+use crate::records::STRIDE;
 ghost use mathlib.Core.Path.{_≡_};
+ghost use mathlib.Core.Bool.{false};
 ghost use Prim.Native.Nat.{_+_, _≤_, _<_, _*_};
 ghost use lib.ListN.{length, take};
 ghost use lib.Seq.{sets};
-ghost use Rattle.net.specs.Net.{controlPoint, controlTriangle, vertexAt, start, vertexNumbers};
-ghost use Rattle.net.specs.TurnedAway.{beyond, anyBeyond};
+ghost use Rattle.net.specs.Net.{controlPoint, controlTriangle, vertexAt, stride, numbers, start, vertexNumbers};
+ghost use Rattle.net.specs.TurnedAway.{badSize, beyond, anyBeyond, netBeyond};
 
 // The control point that begins at a place of the net.
 fn load_point(net: &[i32], at: usize) -> [i32; 3]
@@ -19,13 +22,13 @@ fn load_point(net: &[i32], at: usize) -> [i32; 3]
 
 // The control triangle of vertex (i, j). For the crates above, which have refused every vertex that is not in the net.
 pub fn load(net: &[i32], w: usize, i: usize, j: usize) -> [[i32; 3]; 3]
-    requires { ⌜ start w (vertexAt i j) + 9 ≤ length (now net) ⌝ }
+    requires { ⌜ start w (vertexAt i j) + stride ≤ length (now net) ⌝ }
     ensures { λ r. ⌜ r ≡ controlTriangle (now (net .entry)) w (vertexAt i j) ⌝ }
 {
-    let at = 9 * (j * w + i);
+    let at = STRIDE * (j * w + i);
     let c1 = load_point(net, at);
-    let c2 = load_point(net, at + 3);
-    let c3 = load_point(net, at + 6);
+    let c2 = load_point(net, at + POINT_STRIDE);
+    let c3 = load_point(net, at + 2 * POINT_STRIDE);
     [c1, c2, c3]
 }
 
@@ -64,16 +67,15 @@ pub fn any_beyond(numbers: &[i32]) -> bool
     false
 }
 
-// Whether one of the numbers of the first n vertices is. For the crates above, which have refused every net that is too short. A part of nine at a
-// time: its length is known, so the loop over it is written out.
-pub fn net_beyond(net: &[i32], n: usize) -> bool
-    requires { ⌜ 9 * n ≤ length (now net) ⌝ }
-    ensures { λ r. ⌜ r ≡ anyBeyond (take (9 * n) (now (net .entry))) ⌝ }
+// Whether one of the numbers of the first n vertices is. A vertex's part at a time: its length is known, so the loop over it is written out.
+fn first_beyond(net: &[i32], n: usize) -> bool
+    requires { ⌜ stride * n ≤ length (now net) ⌝ }
+    ensures { λ r. ⌜ r ≡ anyBeyond (take (stride * n) (now (net .entry))) ⌝ }
 {
     let mut i = 0;
     while i < n {
-        let at = 9 * i;
-        if any_beyond(&net[at..at + 9]) {
+        let at = STRIDE * i;
+        if any_beyond(&net[at..at + STRIDE]) {
             return true;
         }
         i += 1;
@@ -81,11 +83,19 @@ pub fn net_beyond(net: &[i32], n: usize) -> bool
     false
 }
 
-// Whether one of the nine numbers of vertex (i, j) is. For the crates above, which have refused every vertex that is not in the net.
+// Whether one of the numbers of a whole net is. For the crates above, which have refused every other size and every net that is too short.
+pub fn net_beyond(net: &[i32], w: usize, h: usize) -> bool
+    requires { ⌜ (badSize w h ≡ false) × (numbers w h ≤ length (now net)) ⌝ }
+    ensures { λ r. ⌜ r ≡ netBeyond (now (net .entry)) w h ⌝ }
+{
+    first_beyond(net, w * h)
+}
+
+// Whether one of the numbers of vertex (i, j) is. For the crates above, which have refused every vertex that is not in the net.
 pub fn vertex_beyond(net: &[i32], w: usize, i: usize, j: usize) -> bool
-    requires { ⌜ start w (vertexAt i j) + 9 ≤ length (now net) ⌝ }
+    requires { ⌜ start w (vertexAt i j) + stride ≤ length (now net) ⌝ }
     ensures { λ r. ⌜ r ≡ anyBeyond (vertexNumbers (now (net .entry)) w (vertexAt i j)) ⌝ }
 {
-    let at = 9 * (j * w + i);
-    any_beyond(&net[at..at + 9])
+    let at = STRIDE * (j * w + i);
+    any_beyond(&net[at..at + STRIDE])
 }

@@ -1,4 +1,5 @@
 // The nine numbers of a vertex, handed back as that part of the lent net, and the refusals of that.
+use crate::records::STRIDE;
 use crate::sizes::bad_size;
 use crate::sizes::short_net;
 ghost use mathlib.Core.Path.{_≡_};
@@ -33,8 +34,8 @@ pub fn vertex(net: &[i32], w: usize, h: usize, i: usize, j: usize) -> &[i32]
 {
     let refusal = vertex_refusal(net, w, h, i, j);
     if refusal == 0 {
-        let at = 9 * (j * w + i);
-        &net[at..at + 9]
+        let at = STRIDE * (j * w + i);
+        &net[at..at + STRIDE]
     } else {
         &net[0..0]
     }

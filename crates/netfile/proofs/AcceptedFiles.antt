@@ -12,12 +12,12 @@ use lib.Seq.{take-all, take-add, drop-drop, getD-take, getD-drop, drop-append-le
 use borrow.Author.Tests.{ltb-false, le-ltb, eqb-true, not-false}
 use Rattle.exact.specs.Filling.{over, runs}
 use Rattle.exact.proofs.FillingLaws.{runs-of-parts, runs-same, length-runs, getD-runs, take-over, length-over}
-use Rattle.net.specs.Net.{number, numbers}
+use Rattle.net.specs.Net.{number, numbers, pointStride}
 use Rattle.net.specs.TurnedAway.{beyond, anyBeyond}
 use Rattle.net.proofs.Beyond.{cut}
 use Rattle.net.proofs.Faults.{Clear, clear-none, clear-parts, clear-run, or-no, when-accepted, accepted-answer}
-use Rattle.net.proofs.Ranges.{any-runs}
-use Rattle.words.specs.NetFile.{word, kindOf, payloadOf, widthKind, heightKind, xKind, yKind, zKind, endKind, wordBytes, firstWord, points, numberBytes, pointBytes, netFile, fileSize, fileWidth, fileHeight, firstNumber, firstPoint, fromPoint, fileNumbers, AllBytes}
+use Rattle.net.proofs.Ranges.{any-runs, front-in-range}
+use Rattle.words.specs.NetFile.{word, kindOf, payloadOf, widthKind, heightKind, xKind, yKind, zKind, endKind, wordBytes, firstWord, points, numberBytes, pointBytes, netFile, fileSize, fileWidth, fileHeight, firstNumber, firstPoint, fromPoint, fileNumbers, AllBytes, headSize, pointSize}
 use Rattle.words.specs.TurnedAway.{wordFaults}
 use Rattle.words.proofs.WordLaws.{payload-small, word-of-parts, bytes-of-first, same-first, complement-signed}
 use Rattle.writer.specs.TurnedAway.{writeFaults, writeRefusal, noRoom}
@@ -45,10 +45,10 @@ module _ (file : List ℕ) (short : Bool) (taken : readRefusal file short ≡ 0)
   after-head : Clear (runs count (λ i. pointFaults (fromPoint file i))) × Clear (endFaults (fromPoint file count))
   after-head = clear-parts (runs count (λ i. pointFaults (fromPoint file i))) (endFaults (fromPoint file count)) (parts .1)
 
-  sides-there : 8 ≤ length file
+  sides-there : headSize ≤ length file
   sides-there = head-there file short (parts .0)
 
-  body-there : 8 + 12 * count ≤ length file
+  body-there : headSize + pointSize * count ≤ length file
   body-there = points-there file count sides-there (after-head .0)
 
   -- its length
@@ -56,7 +56,7 @@ module _ (file : List ℕ) (short : Bool) (taken : readRefusal file short ≡ 0)
   whole-length =
       let least = ltb-false (length (fromPoint file count)) 4 (after-head .1 .0) in
       let most = ltb-false 4 (length (fromPoint file count)) (after-head .1 .1 .1 .1 .0) in
-      omega (arith, least, most, length-drop (8 + 12 * count) file, body-there)
+      omega (arith, least, most, length-drop (headSize + pointSize * count) file, body-there)
 
   good : (room : ℕ) → short ≡ shortFor file room → GoodHead file room
   good room e = good-head file false room (subst (λ (t : Bool). Clear (headFaults file t)) e (parts .0))
@@ -110,7 +110,7 @@ module _ (left : List ℕ) (k : Clear (pointFaults left)) where
   three = point-parts left k
 
   point-back : AllBytes left →
-      numberBytes xKind (firstNumber left) ++ numberBytes yKind (firstNumber (drop 4 left)) ++ numberBytes zKind (firstNumber (drop 8 left)) ≡ take 12 left
+      numberBytes xKind (firstNumber left) ++ numberBytes yKind (firstNumber (drop 4 left)) ++ numberBytes zKind (firstNumber (drop 8 left)) ≡ take pointSize left
   point-back small =
       let x = number-back left small xKind (three .0) in
       let y = number-back (drop 4 left) (bytes-from left 4 small) yKind (three .1) in
@@ -123,7 +123,7 @@ module _ (left : List ℕ) (k : Clear (pointFaults left)) where
       sym (or-no (beyond (firstNumber left)) _ (three .0 .1 .1 .0)
       (or-no (beyond (firstNumber (drop 4 left))) _ (three .1 .1 .1 .0) (or-no (beyond (firstNumber (drop 8 left))) _ (three .2 .1 .1 .0) refl)))
 
-point-numbers : (left : List ℕ) → length (firstPoint left) ≡ 3
+point-numbers : (left : List ℕ) → length (firstPoint left) ≡ pointStride
 unfolding firstPoint
 point-numbers left = refl
 
@@ -152,7 +152,7 @@ module _ (file : List ℕ) (lent : List ℤ) (taken : Readable file lent) where
   room = good file short taken (length lent) refl .room-enough
 
   numbers-read : length (fileNumbers file) ≡ numbers width height
-  numbers-read = length-runs n 3 (λ i. firstPoint (fromPoint file i)) (λ i k. point-numbers (fromPoint file i)) ∙ omega arith
+  numbers-read = length-runs n pointStride (λ i. firstPoint (fromPoint file i)) (λ i k. point-numbers (fromPoint file i)) ∙ omega arith
 
   laid-over : after ≡ over (fileNumbers file) lent
   laid-over = sym (when-accepted (readRefusal file short) (over (fileNumbers file) lent) lent taken)
@@ -164,12 +164,12 @@ module _ (file : List ℕ) (lent : List ℤ) (taken : Readable file lent) where
       cut-of : List ℤ → List ℤ
       cut-of l = cut l width height
 
-  number-after : (i at r : ℕ) → i < n → r < 3 → at ≡ i * 3 + r → number after at ≡ number (firstPoint (fromPoint file i)) r
+  number-after : (i at r : ℕ) → i < n → r < 3 → at ≡ i * pointStride + r → number after at ≡ number (firstPoint (fromPoint file i)) r
   number-after i at r k l e =
       sym (getD-take (numbers width height) after at (pos 0) (omega (arith, k, l, e)))
       ∙ ap (λ (m : List ℤ). number m at) read-front
       ∙ ap (number (fileNumbers file)) e
-      ∙ getD-runs n 3 (λ j. firstPoint (fromPoint file j)) (pos 0) (λ j q. point-numbers (fromPoint file j)) i r k l
+      ∙ getD-runs n pointStride (λ j. firstPoint (fromPoint file j)) (pos 0) (λ j q. point-numbers (fromPoint file j)) i r k l
 
   taken-again : Writable after width height
   taken-again =
@@ -178,28 +178,28 @@ module _ (file : List ℕ) (lent : List ℤ) (taken : Readable file lent) where
         (
           le-ltb (length after) (numbers width height)
               (omega (arith, ap length laid-over, length-over (fileNumbers file) lent (omega (arith, numbers-read, room)), room)),
-          (refl, (ap anyBeyond read-front ∙ any-runs n (λ i. firstPoint (fromPoint file i)) (λ i k. point-range (fromPoint file i) (points-clear i k)), tt)),
+          (refl, (front-in-range after width height read-front (any-runs n (λ i. firstPoint (fromPoint file i)) (λ i k. point-range (fromPoint file i) (points-clear i k))), tt)),
         ),
       )
 
   module _ (small : AllBytes file) where
-    point-after : (i : ℕ) → i < n → pointBytes after (3 * i) ≡ take 12 (drop (i * 12) (drop 8 file))
+    point-after : (i : ℕ) → i < n → pointBytes after (pointStride * i) ≡ take pointSize (drop (i * pointSize) (drop headSize file))
     unfolding pointBytes firstPoint
     point-after i k =
-        let x = number-after i (3 * i) 0 k (lit< tt) (omega arith) in
-        let y = number-after i (3 * i + 1) 1 k (lit< tt) (omega arith) in
-        let z = number-after i (3 * i + 2) 2 k (lit< tt) (omega arith) in
-        let place : 8 + 12 * i ≡ 8 + i * 12 = omega arith in
+        let x = number-after i (pointStride * i) 0 k (lit< tt) (omega arith) in
+        let y = number-after i (pointStride * i + 1) 1 k (lit< tt) (omega arith) in
+        let z = number-after i (pointStride * i + 2) 2 k (lit< tt) (omega arith) in
+        let place : headSize + pointSize * i ≡ headSize + i * pointSize = omega arith in
         (λ t. numberBytes xKind (x t) ++ numberBytes yKind (y t) ++ numberBytes zKind (z t))
-        ∙ point-back (fromPoint file i) (points-clear i k) (bytes-from file (8 + 12 * i) small)
-        ∙ ap (λ (at : ℕ). take 12 (drop at file)) place
-        ∙ ap (take 12) (sym (drop-drop (i * 12) 8 file))
+        ∙ point-back (fromPoint file i) (points-clear i k) (bytes-from file (headSize + pointSize * i) small)
+        ∙ ap (λ (at : ℕ). take pointSize (drop at file)) place
+        ∙ ap (take pointSize) (sym (drop-drop (i * pointSize) headSize file))
 
-    body-after : runs n (λ i. pointBytes after (3 * i)) ≡ take (12 * n) (drop 8 file)
+    body-after : runs n (λ i. pointBytes after (pointStride * i)) ≡ take (pointSize * n) (drop headSize file)
     body-after =
-        runs-same n (λ i. pointBytes after (3 * i)) (λ i. take 12 (drop (i * 12) (drop 8 file))) point-after
-        ∙ runs-of-parts (drop 8 file) 12 n
-        ∙ ap (λ (k : ℕ). take k (drop 8 file)) (mul-comm n 12)
+        runs-same n (λ i. pointBytes after (pointStride * i)) (λ i. take pointSize (drop (i * pointSize) (drop headSize file))) point-after
+        ∙ runs-of-parts (drop headSize file) pointSize n
+        ∙ ap (λ (k : ℕ). take k (drop headSize file)) (mul-comm n pointSize)
 
     end-after : wordBytes (word endKind 0) ≡ take 4 (fromPoint file n)
     end-after =
@@ -207,7 +207,7 @@ module _ (file : List ℕ) (lent : List ℤ) (taken : Readable file lent) where
         let v = firstWord (fromPoint file n) in
         let zero : payloadOf v ≡ 0 = eqb-true (payloadOf v) 0 (not-false (eqb (payloadOf v) 0) (k .1 .1 .0)) in
         ap (λ (p : ℕ). wordBytes (word endKind p)) (sym zero)
-        ∙ word-back (fromPoint file n) (bytes-from file (8 + 12 * n) small) endKind (k .0, (k .1 .0, tt))
+        ∙ word-back (fromPoint file n) (bytes-from file (headSize + pointSize * n) small) endKind (k .0, (k .1 .0, tt))
 
     file-after : netFile after width height ≡ file
     unfolding netFile
@@ -216,10 +216,10 @@ module _ (file : List ℕ) (lent : List ℤ) (taken : Readable file lent) where
         let a = word-back file small widthKind (k .0, (k .1 .0, tt)) in
         let b = word-back (drop 4 file) (bytes-from file 4 small) heightKind (k .1 .1 .1 .0, (k .1 .1 .1 .1 .0, tt)) in
         (λ t. a t ++ b t ++ body-after t ++ end-after t)
-        ∙ ap (λ (l : List ℕ). l ++ take (12 * n) (drop 8 file) ++ take 4 (fromPoint file n)) (sym (take-add 4 4 file))
-        ∙ ap (λ (l : List ℕ). l ++ take 4 (fromPoint file n)) (sym (take-add 8 (12 * n) file))
-        ∙ sym (take-add (8 + 12 * n) 4 file)
-        ∙ take-all (8 + 12 * n + 4) file (omega (arith, whole-length file short taken))
+        ∙ ap (λ (l : List ℕ). l ++ take (pointSize * n) (drop headSize file) ++ take 4 (fromPoint file n)) (sym (take-add 4 4 file))
+        ∙ ap (λ (l : List ℕ). l ++ take 4 (fromPoint file n)) (sym (take-add headSize (pointSize * n) file))
+        ∙ sym (take-add (headSize + pointSize * n) 4 file)
+        ∙ take-all (headSize + pointSize * n + 4) file (omega (arith, whole-length file short taken))
 
 pub writes-back-file : WritesBack
 writes-back-file file lent out small e k =

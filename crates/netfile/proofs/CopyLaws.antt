@@ -11,7 +11,7 @@ use borrow.Author.Tests.{ltb-false}
 use Rattle.exact.specs.Filling.{over}
 use Rattle.exact.proofs.FillingLaws.{take-over, length-over}
 use Rattle.net.specs.Net.{numbers}
-use Rattle.net.specs.TurnedAway.{badSize, shortNet, anyBeyond, outputAfter}
+use Rattle.net.specs.TurnedAway.{badSize, shortNet, netBeyond, outputAfter}
 use Rattle.net.proofs.Faults.{clear-none, or-none, answered, not-accepted, accepted-answer, refused-answer, when-accepted, when-refused}
 use Rattle.words.specs.NetFile.{netFile, fileSize}
 use Rattle.words.specs.Answers.{answer}
@@ -36,7 +36,7 @@ module _ (net : List ℤ) (w h : ℕ) (out : List ℕ) (back : List ℤ) where
     where
       -- the refusals from 2 on
       later : Bool → ℕ
-      later t = cond (shortNet net w h) 2 (cond (t || noRoom w h (length out)) 5 (cond (anyBeyond (take (numbers w h) net)) 3 0))
+      later t = cond (shortNet net w h) 2 (cond (t || noRoom w h (length out)) 5 (cond (netBeyond net w h) 3 0))
 
       go : (bad few : Bool) → _≡_ {A = ℕ} (cond bad 1 (later (cond bad false few))) (cond bad 1 (later few))
       go true few = refl

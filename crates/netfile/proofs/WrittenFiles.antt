@@ -12,13 +12,13 @@ use lib.Seq.{drop-at, drop-drop, getD-take, getD-drop}
 use borrow.Author.Tests.{le-ltb, eq-eqb}
 use Rattle.exact.specs.Filling.{over, runs}
 use Rattle.exact.proofs.FillingLaws.{Begins, run-begins, runs-of-parts, runs-of-list, runs-same}
-use Rattle.net.specs.Net.{number, numbers}
+use Rattle.net.specs.Net.{number, numbers, pointStride}
 use Rattle.net.specs.TurnedAway.{badSide, beyond}
 use Rattle.net.proofs.Beyond.{cut}
 use Rattle.net.proofs.Faults.{Clear, clear-none, clear-append, clear-runs, or-none, when-accepted, accepted-answer}
 use Rattle.net.proofs.Places.{GoodSize, good-size}
 use Rattle.net.proofs.Ranges.{in-range}
-use Rattle.words.specs.NetFile.{word, kindOf, payloadOf, widthKind, heightKind, xKind, yKind, zKind, endKind, complement, signed, wordBytes, firstWord, points, numberBytes, pointBytes, netFile, fileSize, fileWidth, fileHeight, firstNumber, firstPoint, fromPoint, fileNumbers}
+use Rattle.words.specs.NetFile.{word, kindOf, payloadOf, widthKind, heightKind, xKind, yKind, zKind, endKind, complement, signed, wordBytes, firstWord, points, numberBytes, pointBytes, netFile, fileSize, fileWidth, fileHeight, firstNumber, firstPoint, fromPoint, fileNumbers, headSize, pointSize}
 use Rattle.words.specs.TurnedAway.{wordFaults}
 use Rattle.words.proofs.WordLaws.{kind-of-word, payload-of-word, first-of-bytes, complement-small, signed-complement}
 use Rattle.writer.specs.TurnedAway.{writeRefusal}
@@ -109,7 +109,7 @@ module _ (net : List ℤ) (at : ℕ) (after : List ℕ) (hx : natAbs (number net
       λ t. x t ∷ y t ∷ z t ∷ []
 
 -- three numbers of a list
-three-numbers : (l : List ℤ) (at : ℕ) → at + 3 ≤ length l → number l at ∷ number l (at + 1) ∷ number l (at + 2) ∷ [] ≡ take 3 (drop at l)
+three-numbers : (l : List ℤ) (at : ℕ) → at + pointStride ≤ length l → number l at ∷ number l (at + 1) ∷ number l (at + 2) ∷ [] ≡ take pointStride (drop at l)
 unfolding runs
 three-numbers l at h =
     let first : number l at ≡ number (drop at l) 0 = ap (number l) (omega arith) ∙ sym (getD-drop at l 0 (pos 0)) in
@@ -142,7 +142,7 @@ module _ (net : List ℤ) (w h : ℕ) (taken : Writable net w h) where
   endBytes = wordBytes (word endKind 0)
 
   abbrev body : List ℕ
-  body = runs n (λ i. pointBytes net (3 * i))
+  body = runs n (λ i. pointBytes net (pointStride * i))
 
   -- the file from its first, its second and its third word on
   from-first : file ≡ widthBytes ++ (heightBytes ++ (body ++ endBytes))
@@ -152,20 +152,20 @@ module _ (net : List ℤ) (w h : ℕ) (taken : Writable net w h) where
   from-second : drop 4 file ≡ heightBytes ++ (body ++ endBytes)
   from-second = ap (drop 4) from-first ∙ drop-at widthBytes (heightBytes ++ (body ++ endBytes)) 4 (word-length (word widthKind w))
 
-  from-third : drop 8 file ≡ body ++ endBytes
+  from-third : drop headSize file ≡ body ++ endBytes
   from-third = sym (drop-drop 4 4 file) ∙ ap (drop 4) from-second ∙ drop-at heightBytes (body ++ endBytes) 4 (word-length (word heightKind h))
 
   -- and from control point i on
-  from-point : (i : ℕ) → fromPoint file i ≡ drop (i * 12) (body ++ endBytes)
-  from-point i = sym (drop-drop (12 * i) 8 file) ∙ ap (drop (12 * i)) from-third ∙ ap (λ (k : ℕ). drop k (body ++ endBytes)) (mul-comm 12 i)
+  from-point : (i : ℕ) → fromPoint file i ≡ drop (i * pointSize) (body ++ endBytes)
+  from-point i = sym (drop-drop (pointSize * i) headSize file) ∙ ap (drop (pointSize * i)) from-third ∙ ap (λ (k : ℕ). drop k (body ++ endBytes)) (mul-comm pointSize i)
 
-  point-begins : (i : ℕ) → i < n → Begins (pointBytes net (3 * i)) (fromPoint file i)
+  point-begins : (i : ℕ) → i < n → Begins (pointBytes net (pointStride * i)) (fromPoint file i)
   point-begins i k =
-      let b = run-begins n 12 (λ j. pointBytes net (3 * j)) endBytes (λ j l. point-length net (3 * j)) i k in
+      let b = run-begins n pointSize (λ j. pointBytes net (pointStride * j)) endBytes (λ j l. point-length net (pointStride * j)) i k in
       record { rest = b .rest; whole = from-point i ∙ b .whole }
 
   at-end : fromPoint file n ≡ endBytes
-  at-end = from-point n ∙ drop-at body endBytes (n * 12) (points-length net n)
+  at-end = from-point n ∙ drop-at body endBytes (n * pointSize) (points-length net n)
 
   -- the sides
   width-found : fileWidth file ≡ w
@@ -183,8 +183,8 @@ module _ (net : List ℤ) (w h : ℕ) (taken : Writable net w h) where
       subst (λ (z : ℤ). natAbs z ≤ 16777216) (getD-take (numbers w h) net i (pos 0) k)
       (in-range (cut net w h) (good .range) i (omega (arith, k, length-take (numbers w h) net, good .long)))
 
-  small-point : (i r : ℕ) → i < n → r < 3 → natAbs (number net (3 * i + r)) ≤ 16777216
-  small-point i r k l = small (3 * i + r) (omega (arith, k, l))
+  small-point : (i r : ℕ) → i < n → r < 3 → natAbs (number net (pointStride * i + r)) ≤ 16777216
+  small-point i r k l = small (pointStride * i + r) (omega (arith, k, l))
 
   -- there is no fault
   head-clear : Clear (headFaults file false)
@@ -202,7 +202,7 @@ module _ (net : List ℤ) (w h : ℕ) (taken : Writable net w h) where
   points-clear i k =
       let b = point-begins i k in
       subst (λ (l : List ℕ). Clear (pointFaults l)) (sym (b .whole))
-      (point-clear net (3 * i) (b .rest) (small (3 * i) (omega (arith, k))) (small-point i 1 k (lit< tt)) (small-point i 2 k (lit< tt)))
+      (point-clear net (pointStride * i) (b .rest) (small (pointStride * i) (omega (arith, k))) (small-point i 1 k (lit< tt)) (small-point i 2 k (lit< tt)))
 
   end-clear : Clear (endFaults endBytes)
   unfolding wordBytes firstWord
@@ -227,20 +227,20 @@ module _ (net : List ℤ) (w h : ℕ) (taken : Writable net w h) where
   numbers-found : fileNumbers file ≡ cut net w h
   numbers-found =
       ap (λ (k : ℕ). runs k (λ i. firstPoint (fromPoint file i))) count
-      ∙ runs-same n (λ i. firstPoint (fromPoint file i)) (λ i. take 3 (drop (i * 3) net)) each
+      ∙ runs-same n (λ i. firstPoint (fromPoint file i)) (λ i. take pointStride (drop (i * pointStride) net)) each
       ∙ runs-of-parts net 3 n
       ∙ ap (λ (k : ℕ). take k net) all
     where
-      all : n * 3 ≡ numbers w h
+      all : n * pointStride ≡ numbers w h
       all = omega arith
 
-      each : (i : ℕ) → i < n → firstPoint (fromPoint file i) ≡ take 3 (drop (i * 3) net)
+      each : (i : ℕ) → i < n → firstPoint (fromPoint file i) ≡ take pointStride (drop (i * pointStride) net)
       each i k =
           let b = point-begins i k in
           ap firstPoint (b .whole)
-          ∙ point-found net (3 * i) (b .rest) (small (3 * i) (omega (arith, k))) (small-point i 1 k (lit< tt)) (small-point i 2 k (lit< tt))
-          ∙ three-numbers net (3 * i) (omega (arith, k, good .long))
-          ∙ ap (λ (at : ℕ). take 3 (drop at net)) (mul-comm 3 i)
+          ∙ point-found net (pointStride * i) (b .rest) (small (pointStride * i) (omega (arith, k))) (small-point i 1 k (lit< tt)) (small-point i 2 k (lit< tt))
+          ∙ three-numbers net (pointStride * i) (omega (arith, k, good .long))
+          ∙ ap (λ (at : ℕ). take pointStride (drop at net)) (mul-comm pointStride i)
 
   -- room for the file's numbers
   room-found : (lent : List ℤ) → numbers w h ≤ length lent → shortFor file (length lent) ≡ false

@@ -1,4 +1,5 @@
 // Writing and reading in one go: the round trip, held to by the code itself.
+use net::STRIDE;
 use net::bad_size;
 use reader::ReadAnswer;
 use reader::read;
@@ -23,7 +24,7 @@ fn too_short_for(w: usize, h: usize, room: usize) -> bool
     if bad_size(w, h) {
         return false;
     }
-    room < 9 * (w * h)
+    room < STRIDE * (w * h)
 }
 
 // The net's file over the front of `out`, and the net that is read from these bytes over the front of `back`: the net's first 9wh numbers.

@@ -10,7 +10,7 @@ use lib.Seq.{take-all, getD-take, getD-drop}
 use borrow.Author.Tests.{ltb-false, le-ltb}
 use Rattle.net.specs.TurnedAway.{Fault, firstFault, beyond}
 use Rattle.net.proofs.Faults.{Clear, Numbered, none-clear, clear-parts, numbered-append, answered, not-accepted, fault-before}
-use Rattle.words.specs.NetFile.{kindOf, payloadOf, signed, firstWord, xKind, yKind, zKind, fromPoint}
+use Rattle.words.specs.NetFile.{kindOf, payloadOf, signed, firstWord, xKind, yKind, zKind, fromPoint, headSize, pointSize}
 use Rattle.words.specs.TurnedAway.{wordFaults}
 use Rattle.words.specs.Answers.{answer}
 use Rattle.words.proofs.WordLaws.{same-first}
@@ -65,12 +65,12 @@ point-parts left k =
     let p = clear-parts (numberFaults left xKind) (numberFaults (drop 4 left) yKind) (q .0) in
     (p .0, p .1, q .1)
 
-pub point-long : (left : List ℕ) → Clear (pointFaults left) → 12 ≤ length left
+pub point-long : (left : List ℕ) → Clear (pointFaults left) → pointSize ≤ length left
 point-long left k = omega (arith, ltb-false (length (drop 8 left)) 4 (point-parts left k .2 .0), length-drop 8 left)
 
 -- and so the next one begins within the file
-pub next-begins : (file : List ℕ) (i : ℕ) → Clear (pointFaults (fromPoint file i)) → 8 + 12 * (i + 1) ≤ length file
-next-begins file i k = omega (arith, point-long (fromPoint file i) k, length-drop (8 + 12 * i) file)
+pub next-begins : (file : List ℕ) (i : ℕ) → Clear (pointFaults (fromPoint file i)) → headSize + pointSize * (i + 1) ≤ length file
+next-begins file i k = omega (arith, point-long (fromPoint file i) k, length-drop (headSize + pointSize * i) file)
 
 -- the part of a slice from a place on
 pub part-from : (l : List ℕ) (n : ℕ) → take (length l - n) (drop n l) ≡ drop n l
@@ -90,10 +90,10 @@ number-same l m kind h k v =
     let there = le-ltb (length l) 4 h ∙ sym (le-ltb (length m) 4 k) in
     λ t. (there t, 7) ∷ (not (eqb (kindOf (v t)) kind), 8) ∷ (beyond (signed (payloadOf (v t))), 3) ∷ []
 
-pub point-within : (left : List ℕ) → 12 ≤ length left → pointFaults (take 12 left) ≡ pointFaults left
+pub point-within : (left : List ℕ) → pointSize ≤ length left → pointFaults (take pointSize left) ≡ pointFaults left
 point-within left h =
-    let long = length-take 12 left in
-    let x = number-same (take 12 left) left xKind (omega arith) (omega arith) (word-within left 12 0 (lit≤ tt)) in
-    let y = number-same (drop 4 (take 12 left)) (drop 4 left) yKind (omega (arith, length-drop 4 (take 12 left))) (omega (arith, length-drop 4 left)) (word-within left 12 4 (lit≤ tt)) in
-    let z = number-same (drop 8 (take 12 left)) (drop 8 left) zKind (omega (arith, length-drop 8 (take 12 left))) (omega (arith, length-drop 8 left)) (word-within left 12 8 (lit≤ tt)) in
+    let long = length-take pointSize left in
+    let x = number-same (take pointSize left) left xKind (omega arith) (omega arith) (word-within left pointSize 0 (lit≤ tt)) in
+    let y = number-same (drop 4 (take pointSize left)) (drop 4 left) yKind (omega (arith, length-drop 4 (take pointSize left))) (omega (arith, length-drop 4 left)) (word-within left pointSize 4 (lit≤ tt)) in
+    let z = number-same (drop 8 (take pointSize left)) (drop 8 left) zKind (omega (arith, length-drop 8 (take pointSize left))) (omega (arith, length-drop 8 left)) (word-within left pointSize 8 (lit≤ tt)) in
     λ t. x t ++ y t ++ z t

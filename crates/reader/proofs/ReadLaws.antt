@@ -12,7 +12,7 @@ use Rattle.exact.specs.Filling.{over, runs}
 use Rattle.net.specs.Net.{numbers}
 use Rattle.net.specs.TurnedAway.{firstFault, badSide, badSize}
 use Rattle.net.proofs.Faults.{Clear, Numbered, none-clear, clear-parts, clear-run, fault-after, numbered-append, numbered-runs, answered, accepted-answer, refused-answer, when-accepted, when-refused, or-no, or-none}
-use Rattle.words.specs.NetFile.{points, fileWidth, fileHeight, fileNumbers, fromPoint}
+use Rattle.words.specs.NetFile.{points, fileWidth, fileHeight, fileNumbers, fromPoint, headSize, pointSize}
 use Rattle.reader.specs.TurnedAway.{pointFaults, endFaults, headFaults, bodyFaults, readFaults, readRefusal, shortFor}
 use Rattle.reader.specs.Answers.{headAnswer, readAnswerWith, readNetWith}
 use Rattle.reader.proofs.Parsing.{refused, point-numbered, next-begins}
@@ -50,12 +50,12 @@ read-fits file short none = read-parts file short none .0 .1 .1 .1 .1 .1 .1 .0
 
 -- ---- the words that are there
 
-pub head-there : (file : List ℕ) (short : Bool) → Clear (headFaults file short) → 8 ≤ length file
+pub head-there : (file : List ℕ) (short : Bool) → Clear (headFaults file short) → headSize ≤ length file
 head-there file short k = omega (arith, ltb-false (length (drop 4 file)) 4 (k .1 .1 .1 .0), length-drop 4 file)
 
 -- two sides in their range, and room for their numbers
 pub record GoodHead (file : List ℕ) (room : ℕ) : Type 0 where
-  pub there : 8 ≤ length file
+  pub there : headSize ≤ length file
   pub size : badSize (fileWidth file) (fileHeight file) ≡ false
   pub room-enough : numbers (fileWidth file) (fileHeight file) ≤ room
 
@@ -68,7 +68,7 @@ good-head file other room k =
     }
 
 -- n control points without a fault end within the file
-pub points-there : (file : List ℕ) (n : ℕ) → 8 ≤ length file → Clear (runs n (λ i. pointFaults (fromPoint file i))) → 8 + 12 * n ≤ length file
+pub points-there : (file : List ℕ) (n : ℕ) → headSize ≤ length file → Clear (runs n (λ i. pointFaults (fromPoint file i))) → headSize + pointSize * n ≤ length file
 points-there file zero h k = h
 points-there file (suc n) h k =
     let last = next-begins file n (clear-run (suc n) (λ i. pointFaults (fromPoint file i)) k n (omega arith)) in

@@ -2,7 +2,7 @@
 use mathlib.Core.Path.{_≡_, refl}
 use mathlib.Core.Bool.{Bool, not}
 use mathlib.Core.List.{List, [], _∷_, _++_}
-use Prim.Native.Nat.{ℕ}
+use Prim.Native.Nat.{ℕ, _-_}
 use lib.Dec.{ltb, eqb}
 use lib.IntN.{ℤ, pos}
 use lib.ListN.{length, take, drop, replicate}
@@ -47,27 +47,27 @@ shortFor file room = ltb room (numbers (fileWidth file) (fileHeight file))
 -- ---- worked cases: document 01's examples of 7, 8 and 9, and files that are changed in one place
 
 abbrev flat : List ℤ
-flat = replicate 36 (pos 5)
+flat = replicate (numbers 2 2) (pos 5)
 
 abbrev found : List ℕ → ℕ → ℕ
 found file room = readRefusal file (shortFor file room)
 
 examples :
-    (found [] 36 ≡ 7)
-    × (found (wordBytes (word 2 2)) 36 ≡ 8)
-    × (found (netFile flat 2 2) 36 ≡ 0)
-    × (found (netFile flat 2 2 ++ 0 ∷ []) 36 ≡ 9)
+    (found [] (numbers 2 2) ≡ 7)
+    × (found (wordBytes (word 2 2)) (numbers 2 2) ≡ 8)
+    × (found (netFile flat 2 2) (numbers 2 2) ≡ 0)
+    × (found (netFile flat 2 2 ++ 0 ∷ []) (numbers 2 2) ≡ 9)
 unfolding wordBytes firstWord pointBytes netFile runs
 examples = (refl, refl, refl, refl)
 
 order :
-    (found (netFile flat 2 2) 35 ≡ 5)
+    (found (netFile flat 2 2) (numbers 2 2 - 1) ≡ 5)
     × (found (netFile flat 2 1) 0 ≡ 1)
     × (found (take 7 (netFile flat 2 2)) 0 ≡ 7)
     × (found (take 8 (netFile flat 2 2)) 0 ≡ 5)
-    × (found (take 155 (netFile flat 2 2)) 36 ≡ 7)
-    × (found (take 155 (netFile flat 2 2) ++ 1 ∷ 0 ∷ []) 36 ≡ 8)
-    × (found (take 152 (netFile flat 2 2) ++ wordBytes (word 5 0)) 36 ≡ 8)
-    × (found (netFile (pos 16777217 ∷ flat) 2 2) 36 ≡ 3)
+    × (found (take 155 (netFile flat 2 2)) (numbers 2 2) ≡ 7)
+    × (found (take 155 (netFile flat 2 2) ++ 1 ∷ 0 ∷ []) (numbers 2 2) ≡ 8)
+    × (found (take 152 (netFile flat 2 2) ++ wordBytes (word 5 0)) (numbers 2 2) ≡ 8)
+    × (found (netFile (pos 16777217 ∷ flat) 2 2) (numbers 2 2) ≡ 3)
 unfolding wordBytes firstWord pointBytes netFile runs
 order = (refl, refl, refl, refl, refl, refl, refl, refl)

@@ -1,8 +1,12 @@
 // The reader: the whole file is looked through before the first number is stored. What the inner functions ask is met by those below them in this file.
 use crate::answers::ReadAnswer;
+use net::POINT_STRIDE;
+use net::STRIDE;
 use net::bad_side;
 use net::number_beyond;
 use net::store_point;
+use words::HEAD_SIZE;
+use words::POINT_SIZE;
 use words::Parsed;
 use words::first_number;
 use words::parse_word;
@@ -14,9 +18,9 @@ ghost use Prim.Native.Nat.{_+_, _*_, _≤_, min};
 ghost use lib.Dec.{ltb};
 ghost use lib.ListN.{length};
 ghost use Rattle.exact.specs.Filling.{over, runs};
-ghost use Rattle.net.specs.Net.{numbers};
+ghost use Rattle.net.specs.Net.{numbers, pointStride};
 ghost use Rattle.net.specs.TurnedAway.{badSize, firstFault};
-ghost use Rattle.words.specs.NetFile.{payloadOf, firstWord, firstPoint, fromPoint};
+ghost use Rattle.words.specs.NetFile.{payloadOf, firstWord, firstPoint, fromPoint, headSize, pointSize};
 ghost use Rattle.words.specs.Answers.{wordTold, answer};
 ghost use Rattle.reader.specs.TurnedAway.{sideFaults, numberFaults, pointFaults, endFaults, bodyFaults, shortFor};
 ghost use Rattle.reader.specs.Answers.{readTold, headAnswer, readAnswerWith, readNetWith, readAnswer, readNet};
@@ -45,7 +49,7 @@ fn sized(w: usize, h: usize, short: bool, room: usize) -> ReadAnswer
     if short {
         return ReadAnswer::Refused(5);
     }
-    if room < 9 * (w * h) {
+    if room < STRIDE * (w * h) {
         return ReadAnswer::Refused(5);
     }
     ReadAnswer::Size(w, h)
@@ -101,13 +105,13 @@ fn point_refusal(left: &[u8]) -> u32
 
 // The same of n control points whose words are all there. A part of twelve bytes at a time: its length is known, so that no length is tested.
 fn whole_points_refusal(file: &[u8], n: usize) -> u32
-    requires { ⌜ 8 + 12 * n ≤ length (now file) ⌝ }
+    requires { ⌜ headSize + pointSize * n ≤ length (now file) ⌝ }
     ensures { λ r. ⌜ r ≡ firstFault (runs n (λ i. pointFaults (fromPoint (now (file .entry)) i))) ⌝ }
 {
     let mut i = 0;
     while i < n {
-        let at = 8 + 12 * i;
-        let refusal = point_refusal(&file[at..at + 12]);
+        let at = HEAD_SIZE + POINT_SIZE * i;
+        let refusal = point_refusal(&file[at..at + POINT_SIZE]);
         if refusal != 0 {
             return refusal;
         }
@@ -125,16 +129,16 @@ fn lesser(a: usize, b: usize) -> usize
 
 // The same of n control points: those that are whole, and the one after them where the file ends in it.
 fn points_refusal(file: &[u8], n: usize) -> u32
-    requires { ⌜ 8 ≤ length (now file) ⌝ }
+    requires { ⌜ headSize ≤ length (now file) ⌝ }
     ensures { λ r. ⌜ r ≡ firstFault (runs n (λ i. pointFaults (fromPoint (now (file .entry)) i))) ⌝ }
 {
-    let whole = lesser(n, (file.len() - 8) / 12);
+    let whole = lesser(n, (file.len() - HEAD_SIZE) / POINT_SIZE);
     let refusal = whole_points_refusal(file, whole);
     if refusal != 0 {
         return refusal;
     }
     if whole < n {
-        return point_refusal(&file[8 + 12 * whole..]);
+        return point_refusal(&file[HEAD_SIZE + POINT_SIZE * whole..]);
     }
     0
 }
@@ -160,19 +164,19 @@ fn end_refusal(left: &[u8]) -> u32
 
 // The first fault after the two sides, or 0.
 fn body_refusal(file: &[u8], n: usize) -> u32
-    requires { ⌜ 8 ≤ length (now file) ⌝ }
+    requires { ⌜ headSize ≤ length (now file) ⌝ }
     ensures { λ r. ⌜ r ≡ firstFault (bodyFaults (now (file .entry)) n) ⌝ }
 {
     let refusal = points_refusal(file, n);
     if refusal != 0 {
         return refusal;
     }
-    end_refusal(&file[8 + 12 * n..])
+    end_refusal(&file[HEAD_SIZE + POINT_SIZE * n..])
 }
 
 // The control point in the first three words.
 fn first_point(bytes: &[u8]) -> [i32; 3]
-    requires { ⌜ 12 ≤ length (now bytes) ⌝ }
+    requires { ⌜ pointSize ≤ length (now bytes) ⌝ }
     ensures { λ r. ⌜ r ≡ firstPoint (now (bytes .entry)) ⌝ }
 {
     let x = first_number(bytes);
@@ -183,12 +187,16 @@ fn first_point(bytes: &[u8]) -> [i32; 3]
 
 // The numbers of n control points over the front of the lent net.
 fn load_points(file: &[u8], n: usize, net: &mut [i32])
-    requires { ⌜ (8 + 12 * n ≤ length (now file)) × (3 * n ≤ length (now net)) ⌝ }
+    requires { ⌜ (headSize + pointSize * n ≤ length (now file)) × (pointStride * n ≤ length (now net)) ⌝ }
     ensures { λ r. ⌜ now (net .exit) ≡ over (runs n (λ i. firstPoint (fromPoint (now (file .entry)) i))) (now (net .entry)) ⌝ }
 {
     let mut i = 0;
     while i < n {
-        store_point(first_point(&file[8 + 12 * i..]), 3 * i, net);
+        store_point(
+            first_point(&file[HEAD_SIZE + POINT_SIZE * i..]),
+            POINT_STRIDE * i,
+            net,
+        );
         i += 1;
     }
 }

@@ -1,14 +1,12 @@
 -- Numbers beyond 9wh do not matter: refusals and refined nets are those of the net cut after its 9wh numbers.
-use mathlib.Core.Path.{_≡_, sym}
+use mathlib.Core.Path.{_≡_}
 use mathlib.Core.Bool.{Bool}
 use mathlib.Core.List.{List, [], _∷_, _++_}
 use Prim.Native.Nat.{ℕ, zero, suc}
-use native.Mathlib.Nat.{le-refl}
 use lib.IntN.{ℤ}
-use lib.Seq.{take-take}
-use Rattle.net.specs.Net.{vertexAt, Field, numbers, field}
-use Rattle.net.specs.TurnedAway.{firstFault, anyBeyond}
-use Rattle.net.proofs.Beyond.{cut, cut-short, cut-field}
+use Rattle.net.specs.Net.{vertexAt, Field, field}
+use Rattle.net.specs.TurnedAway.{firstFault}
+use Rattle.net.proofs.Beyond.{cut, cut-short, cut-beyond, cut-field}
 use Rattle.net.proofs.Places.{vertex-ends}
 use Rattle.subdivision.specs.Refinement.{sideAfter, refinements}
 use Rattle.steps.specs.RefinedNet.{refinedNet}
@@ -30,7 +28,7 @@ cut-refined net w h k =
 module _ (net : List ℤ) (w h : ℕ) (short : Bool) where
   pub cut-faults : netFaults net w h short ≡ netFaults (cut net w h) w h short
   cut-faults =
-      λ t. (cut-short net w h t, 2) ∷ (short, 5) ∷ (anyBeyond (sym (take-take (numbers w h) (numbers w h) net (le-refl (numbers w h))) t), 3) ∷ []
+      λ t. (cut-short net w h t, 2) ∷ (short, 5) ∷ (cut-beyond net w h t, 3) ∷ []
 
   pub cut-refine-refusal : (k : ℕ) → refineRefusal net w h k short ≡ refineRefusal (cut net w h) w h k short
   cut-refine-refusal k = λ t. firstFault (sizeFaults w h k ++ cut-faults t)

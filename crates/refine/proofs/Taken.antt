@@ -5,10 +5,8 @@ use mathlib.Core.List.{List, _++_}
 use Prim.Native.Nat.{ℕ, _≤_}
 use lib.Dec.{ltb, lit<}
 use lib.IntN.{ℤ}
-use lib.ListN.{take}
 use borrow.Author.Tests.{ltb-false}
-use Rattle.net.specs.Net.{numbers}
-use Rattle.net.specs.TurnedAway.{badSize, shortNet, anyBeyond, AcceptedNet}
+use Rattle.net.specs.TurnedAway.{badSize, shortNet, netBeyond, AcceptedNet}
 use Rattle.net.proofs.Faults.{none-clear, or-none}
 use Rattle.steps.specs.RefinedNet.{numbersAfter, scratchNeed}
 use Rattle.steps.specs.Steps.{Depth}
@@ -24,7 +22,7 @@ pub record Taken (net : List ℤ) (w h k room spare : ℕ) : Type 0 where
   pub enough : scratchNeed k w h ≤ spare
 
 pub taken-by : (net : List ℤ) (w h k room spare : ℕ) → badSize w h ≡ false → tooDeep w h k ≡ false → shortNet net w h ≡ false →
-    tooShort w h k room spare ≡ false → anyBeyond (take (numbers w h) net) ≡ false → Taken net w h k room spare
+    tooShort w h k room spare ≡ false → netBeyond net w h ≡ false → Taken net w h k room spare
 taken-by net w h k room spare e₁ e₄ e₂ e₅ e₃ =
     let r = or-none (ltb room (numbersAfter k w h)) (ltb spare (scratchNeed k w h)) e₅ in
     record {

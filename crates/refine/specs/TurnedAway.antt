@@ -2,12 +2,12 @@
 use mathlib.Core.Path.{_≡_, refl}
 use mathlib.Core.Bool.{Bool, true, false, _||_}
 use mathlib.Core.List.{List, [], _∷_, _++_}
-use Prim.Native.Nat.{ℕ}
+use Prim.Native.Nat.{ℕ, _-_}
 use lib.Dec.{ltb}
 use lib.IntN.{ℤ, pos}
-use lib.ListN.{take, replicate}
+use lib.ListN.{replicate}
 use Rattle.net.specs.Net.{numbers}
-use Rattle.net.specs.TurnedAway.{Fault, firstFault, badSize, shortNet, anyBeyond}
+use Rattle.net.specs.TurnedAway.{Fault, firstFault, badSize, shortNet, netBeyond}
 use Rattle.subdivision.specs.Refinement.{sideAfter}
 use Rattle.steps.specs.RefinedNet.{numbersAfter, scratchNeed}
 
@@ -19,12 +19,12 @@ tooDeep w h k = ltb 6 k || (ltb 1025 (sideAfter k w) || ltb 1025 (sideAfter k h)
 abbrev pub tooShort : ℕ → ℕ → ℕ → ℕ → ℕ → Bool
 tooShort w h k room spare = ltb room (numbersAfter k w h) || ltb spare (scratchNeed k w h)
 
--- the rows that look at sizes alone, and those that look at the net; `short` is whether a lent output or scratch is too short, and 3 looks at all 9wh numbers
+-- the rows that look at sizes alone, and those that look at the net; `short` is whether a lent output or scratch is too short, and 3 looks at the whole net
 abbrev pub sizeFaults : ℕ → ℕ → ℕ → List Fault
 sizeFaults w h k = (badSize w h, 1) ∷ (tooDeep w h k, 4) ∷ []
 
 abbrev pub netFaults : List ℤ → ℕ → ℕ → Bool → List Fault
-netFaults net w h short = (shortNet net w h, 2) ∷ (short, 5) ∷ (anyBeyond (take (numbers w h) net), 3) ∷ []
+netFaults net w h short = (shortNet net w h, 2) ∷ (short, 5) ∷ (netBeyond net w h, 3) ∷ []
 
 abbrev pub refineRefusal : List ℤ → ℕ → ℕ → ℕ → Bool → ℕ
 refineRefusal net w h k short = firstFault (sizeFaults w h k ++ netFaults net w h short)
@@ -37,7 +37,7 @@ lengths : (tooShort 2 2 2 225 81 ≡ false) × (tooShort 2 2 2 224 81 ≡ true) 
 lengths = (refl, refl, refl, refl)
 
 abbrev tooLarge : List ℤ
-tooLarge = pos 16777217 ∷ replicate 35 (pos 0)
+tooLarge = pos 16777217 ∷ replicate (numbers 2 2 - 1) (pos 0)
 
 order :
     (refineRefusal [] 1 2 7 true ≡ 1)
@@ -45,5 +45,6 @@ order :
     × (refineRefusal [] 2 2 0 true ≡ 2)
     × (refineRefusal tooLarge 2 2 0 true ≡ 5)
     × (refineRefusal tooLarge 2 2 0 false ≡ 3)
-    × (refineRefusal (replicate 36 (pos 0)) 2 2 0 false ≡ 0)
+    × (refineRefusal (replicate (numbers 2 2) (pos 0)) 2 2 0 false ≡ 0)
+unfolding netBeyond
 order = (refl, refl, refl, refl, refl, refl)

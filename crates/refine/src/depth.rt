@@ -1,4 +1,5 @@
 // Sides after k steps, and the refusals of refining. What the inner functions ask is met by those below them and by the crate's other modules.
+use net::STRIDE;
 use net::bad_size;
 use net::net_beyond;
 use net::short_net;
@@ -42,7 +43,7 @@ fn shorter_than(room: usize, w: usize, h: usize, k: usize) -> bool
     requires { ⌜ (badSize w h ≡ false) × (tooDeep w h k ≡ false) ⌝ }
     ensures { λ r. ⌜ r ≡ ltb room (numbersAfter k w h) ⌝ }
 {
-    room < 9 * (side_after(w, k) * side_after(h, k))
+    room < STRIDE * (side_after(w, k) * side_after(h, k))
 }
 
 // Whether the output or the scratch is too short.
@@ -81,7 +82,7 @@ pub fn net_refusal(
     if too_short(w, h, k, room, spare) {
         return 5;
     }
-    if net_beyond(net, w * h) {
+    if net_beyond(net, w, h) {
         return 3;
     }
     0

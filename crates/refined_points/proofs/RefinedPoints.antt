@@ -16,7 +16,8 @@ use Rattle.net.specs.Net.{Index, one, two, three, Vertex, vertexAt, Field, corn
 use Rattle.net.specs.TurnedAway.{badSize, beyond, anyBeyond, AcceptedNet}
 use Rattle.net.proofs.Beyond.{cut}
 use Rattle.net.proofs.Faults.{none-clear, or-none, or-no, when-accepted, answered, accepted-answer}
-use Rattle.net.proofs.Ranges.{any-append, any-runs}
+use Rattle.net.proofs.Grids.{any-grid}
+use Rattle.net.proofs.Ranges.{any-append, front-in-range}
 use Rattle.places.specs.Places.{OnGrid, chosen, share, orderOf}
 use Rattle.places.proofs.Cells.{on-grid}
 use Rattle.spline.specs.Spline.{valueIn, spline}
@@ -32,7 +33,7 @@ use Rattle.subdivision.proofs.SameSpline.{side-at-least}
 use Rattle.bounds.specs.DemandThree.{refinedCoordinate, NearSpline, WithinControls}
 use Rattle.bounds.proofs.Distance.{our-nets}
 use Rattle.bounds.proofs.DemandThree.{demand-three, refined-in-range}
-use Rattle.steps.specs.RefinedNet.{Fields, pointAt, vertexRun, rowRun, stored, refinedNet}
+use Rattle.steps.specs.RefinedNet.{Fields, pointAt, vertexRun, stored, refinedNet}
 use Rattle.steps.proofs.StoredNets.{stored-field, refined-length}
 use Rattle.refine.specs.TurnedAway.{tooShort, sizeFaults, netFaults}
 use Rattle.refine.specs.Answers.{refusalOf}
@@ -66,7 +67,7 @@ vertex-fine F v f =
 
 stored-fine : (F : Fields) (w h : ℕ) → ((i j : ℕ) → i < w → j < h → Fine F (vertexAt i j)) → anyBeyond (stored F w h) ≡ false
 unfolding stored
-stored-fine F w h f = any-runs h (rowRun F w) (λ j b. any-runs w (λ i. vertexRun F (vertexAt i j)) (λ i a. vertex-fine F (vertexAt i j) (f i j a b)))
+stored-fine F w h f = any-grid (vertexRun F) w h (λ i j a b. vertex-fine F (vertexAt i j) (f i j a b))
 
 module _ (net : List ℤ) (w h k : ℕ) (out : List ℤ) {spare : ℕ} (taken : Taken net w h k (length out) spare) where
   abbrev wide : ℕ
@@ -100,7 +101,7 @@ module _ (net : List ℤ) (w h k : ℕ) (out : List ℤ) {spare : ℕ} (taken : 
       record {
         size = size;
         long = le-ltb (length left) (numbers wide high) (omega (arith, length-over (refinedNet net w h k) out fits, taken .roomy));
-        inRange = ap anyBeyond front ∙ in-range;
+        inRange = front-in-range left wide high front in-range;
       }
 
   -- ---- its surface points are those of the refined fields

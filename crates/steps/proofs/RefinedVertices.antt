@@ -2,7 +2,7 @@
 use mathlib.Core.Path.{_≡_, refl, sym, ap, _∙_}
 use mathlib.Core.Bool.{Bool}
 use mathlib.Core.List.{List, _++_}
-use Prim.Native.Nat.{ℕ, _+_, _/_, _≤_}
+use Prim.Native.Nat.{ℕ, _+_, _/_, _≤_, _*_}
 use native.Mathlib.Nat.{mul-le-mul, le-refl}
 use native.Mathlib.Omega.{arith}
 use lib.IntN.{ℤ}
@@ -10,7 +10,7 @@ use lib.ListN.{length}
 use lib.Seq.{sets}
 use Rattle.exact.specs.Rounding.{rounded}
 use Rattle.exact.proofs.FillingLaws.{sets-after}
-use Rattle.net.specs.Net.{Index, one, two, three, Vertex, vertexAt, start, entry, controlTriangle, field}
+use Rattle.net.specs.Net.{Index, one, two, three, Vertex, vertexAt, start, entry, controlTriangle, field, stride, pointStride}
 use Rattle.subdivision.specs.Refinement.{kept, kindOf, beginOf, endOf, isOdd, kindBy, beginBy, endBy}
 use Rattle.subdivision.specs.WeightTable.{kindNumber, weights, exactBy, refinedBy, refinedNumber, refinedTriangle}
 use Rattle.subdivision.proofs.Tables.{our-rule, our-refinement}
@@ -18,7 +18,7 @@ use Rattle.steps.specs.RefinedNet.{pointAt, triangleOf, vertexRun, refin
 use Rattle.steps.specs.Steps.{threePoints}
 
 -- a vertex that is stored no later than another ends where that one does, or before
-pub ends-before : (net : List ℤ) (w i j m n : ℕ) → m ≤ i → n ≤ j → start w (vertexAt i j) + 9 ≤ length net → start w (vertexAt m n) + 9 ≤ length net
+pub ends-before : (net : List ℤ) (w i j m n : ℕ) → m ≤ i → n ≤ j → start w (vertexAt i j) + stride ≤ length net → start w (vertexAt m n) + stride ≤ length net
 ends-before net w i j m n a b l = omega (arith, mul-le-mul b (le-refl w), a, l)
 
 -- the rule by our table, at the ends of the edge, is one refinement
@@ -47,12 +47,12 @@ kept-alone a b c =
     (our-rule kept (λ k. entry a k x) (λ k. entry b k x) l ∙ sym (our-rule kept (λ k. entry a k x) (λ k. entry c k x) l)) in
     λ t. triangleOf (λ x v l. same l x t) (vertexAt 0 0)
 
--- its three control points, stored one after the other, are its nine numbers
+-- its three control points, stored one after the other, are its numbers
 pub stored-controls : (net : List ℤ) (w : ℕ) (v : Vertex) (l : List ℤ) (at : ℕ) {c : List (List ℤ)} → c ≡ refinedControls net w v →
     threePoints l at c ≡ sets l at (vertexRun (refinedFields net w) v)
 unfolding refinedControls
 stored-controls net w v l at e =
     let F = refinedFields net w in
     (λ t. threePoints l at (e t))
-    ∙ ap (λ (m : List ℤ). sets m (at + 6) (pointAt F v three)) (sets-after l at (pointAt F v one) (pointAt F v two) refl)
+    ∙ ap (λ (m : List ℤ). sets m (at + 2 * pointStride) (pointAt F v three)) (sets-after l at (pointAt F v one) (pointAt F v two) refl)
     ∙ sets-after l at (pointAt F v one ++ pointAt F v two) (pointAt F v three) refl

@@ -1,43 +1,35 @@
 -- Where the numbers of a stored net stand, and that one refinement looks only at vertices of the net.
-use mathlib.Core.Path.{_≡_, refl, sym, ap, _∙_}
+use mathlib.Core.Path.{_≡_, refl, sym, _∙_}
 use mathlib.Core.Bool.{Bool, true, false}
 use mathlib.Core.List.{List, [], _∷_, _++_}
 use Prim.Native.Nat.{ℕ, zero, suc, _+_, _*_, _/_, _≤_, _<_}
-use native.Mathlib.Nat.{mul-assoc, mul-comm}
 use native.Mathlib.Omega.{arith}
-use lib.Arith.{digits-lt}
 use lib.Dec.{lit<}
 use lib.IntN.{ℤ, pos}
 use lib.ListN.{length, take, drop, length-take, length-drop, List·getD-append}
-use lib.Seq.{getD-take, getD-drop, drop-drop}
+use lib.Seq.{getD-take, getD-drop}
 use borrow.Author.Tests.{ltb-true}
 use Rattle.exact.specs.Rounding.{rounded}
 use Rattle.exact.specs.Filling.{over, runs}
-use Rattle.exact.proofs.FillingLaws.{length-runs, getD-runs, runs-same, runs-of-parts, array-elements}
-use Rattle.net.specs.Net.{Index, one, two, three, rank, Vertex, vertexAt, Field, numbers, start, vertexNumbers, number, field}
-use Rattle.net.proofs.Places.{vertex-ends, field-number, nine-numbers}
+use Rattle.exact.proofs.FillingLaws.{array-elements}
+use Rattle.net.specs.Net.{Index, one, two, three, rank, Vertex, vertexAt, Field, numbers, start, vertexNumbers, number, field, stride, pointStride}
+use Rattle.net.proofs.Grids.{grid-length, grid-number, grid-same, grid-of-parts}
+use Rattle.net.proofs.Places.{vertex-ends, field-number, within-record}
 use Rattle.subdivision.specs.Refinement.{refinedSide, sideAfter, isOdd, kindBy, along, beginBy, endBy, ruleBy, keptControl, exactRefinement, refinement, refinements}
-use Rattle.steps.specs.RefinedNet.{Fields, pointAt, vertexRun, rowRun, stored, refinedFields, refinedNet}
+use Rattle.steps.specs.RefinedNet.{Fields, pointAt, vertexRun, stored, refinedFields, refinedNet}
 
 -- ---- the numbers of a stored net
 
-pub row-length : (F : Fields) (w j : ℕ) → length (rowRun F w j) ≡ w * 9
-row-length F w j = length-runs w 9 (λ i. vertexRun F (vertexAt i j)) (λ i h. refl)
-
 pub stored-length : (F : Fields) (w h : ℕ) → length (stored F w h) ≡ numbers w h
 unfolding stored
-stored-length F w h =
-    length-runs h (w * 9) (rowRun F w) (λ j k. row-length F w j) ∙ omega (arith, mul-assoc h w 9, mul-comm h w)
+stored-length F = grid-length stride (vertexRun F) (λ v. refl)
 
-stored-number : (F : Fields) (w h i j r : ℕ) → i < w → j < h → r < 9 →
+stored-number : (F : Fields) (w h i j r : ℕ) → i < w → j < h → r < stride →
     number (stored F w h) (start w (vertexAt i j) + r) ≡ number (vertexRun F (vertexAt i j)) r
 unfolding stored
-stored-number F w h i j r a b c =
-    ap (number (runs h (rowRun F w))) (omega (arith, mul-assoc j w 9))
-    ∙ getD-runs h (w * 9) (rowRun F w) (pos 0) (λ m k. row-length F w m) j (i * 9 + r) b (digits-lt a c)
-    ∙ getD-runs w 9 (λ m. vertexRun F (vertexAt m j)) (pos 0) (λ m k. refl) i r a c
+stored-number F = grid-number stride (vertexRun F) (λ v. refl)
 
-run-number : (F : Fields) (v : Vertex) (l : Index) (x : ℕ) → x < 3 → number (vertexRun F v) (3 * rank l + x) ≡ F x v l
+run-number : (F : Fields) (v : Vertex) (l : Index) (x : ℕ) → x < 3 → number (vertexRun F v) (pointStride * rank l + x) ≡ F x v l
 run-number F v one zero h = refl
 run-number F v one (suc zero) h = refl
 run-number F v one (suc (suc zero)) h = refl
@@ -54,12 +46,12 @@ pub stored-field : (F : Fields) (w h : ℕ) (old : List ℤ) (i j : ℕ) → i <
     field (over (stored F w h) old) w x (vertexAt i j) l ≡ F x (vertexAt i j) l
 unfolding over
 stored-field F w h old i j a b l x c =
-    let at = start w (vertexAt i j) + (3 * rank l + x) in
+    let at = start w (vertexAt i j) + (pointStride * rank l + x) in
     let ends = vertex-ends {w = w} {h = h} {i = i} {j = j} a b in
-    let here : at < length (stored F w h) = omega (arith, ends, stored-length F w h, nine-numbers l x c) in
+    let here : at < length (stored F w h) = omega (arith, ends, stored-length F w h, within-record l x c) in
     field-number (over (stored F w h) old) w (vertexAt i j) l x c
     ∙ List·getD-append (stored F w h) (drop (length (stored F w h)) old) (pos 0) at here
-    ∙ stored-number F w h i j (3 * rank l + x) a b (nine-numbers l x c)
+    ∙ stored-number F w h i j (pointStride * rank l + x) a b (within-record l x c)
     ∙ run-number F (vertexAt i j) l x c
 
 -- ---- fields that agree on the net
@@ -70,11 +62,10 @@ Agree w h F G = (i j : ℕ) → i < w → j < h → (l : Index) → F (vertexAt 
 pub stored-same : (F G : Fields) (w h : ℕ) → ((x : ℕ) → x < 3 → Agree w h (F x) (G x)) → stored F w h ≡ stored G w h
 unfolding stored
 stored-same F G w h e =
-    runs-same h (rowRun F w) (rowRun G w) (λ j b.
-    runs-same w (λ i. vertexRun F (vertexAt i j)) (λ i. vertexRun G (vertexAt i j)) (λ i a.
+    grid-same (vertexRun F) (vertexRun G) w h (λ i j a b.
     let point : (l : Index) → pointAt F (vertexAt i j) l ≡ pointAt G (vertexAt i j) l =
     λ l t. e 0 (lit< tt) i j a b l t ∷ e 1 (lit< tt) i j a b l t ∷ e 2 (lit< tt) i j a b l t ∷ [] in
-    λ t. point one t ++ point two t ++ point three t))
+    λ t. point one t ++ point two t ++ point three t)
 
 -- one refinement looks only at vertices of the net
 pub refinement-local : (F G : Field) (w h : ℕ) → Agree w h F G → Agree (refinedSide w) (refinedSide h) (refinement F) (refinement G)
@@ -103,32 +94,24 @@ unfolding refinedNet
 refined-length net w h k = stored-length (λ x. refinements k (field net w x)) (sideAfter k w) (sideAfter k h)
 
 -- no step: the net's own numbers
-vertex-part : (net : List ℤ) (w : ℕ) (v : Vertex) → start w v + 9 ≤ length net → vertexRun (field net w) v ≡ vertexNumbers net w v
+vertex-part : (net : List ℤ) (w : ℕ) (v : Vertex) → start w v + stride ≤ length net → vertexRun (field net w) v ≡ vertexNumbers net w v
 unfolding runs
 vertex-part net w v l =
     let part = vertexNumbers net w v in
-    let long : length part ≡ 9 = omega (arith, length-take 9 (drop (start w v) net), length-drop (start w v) net, l) in
-    let same : (k : Index) (x : ℕ) → x < 3 → field net w x v k ≡ number part (3 * rank k + x) =
+    let long : length part ≡ stride = omega (arith, length-take stride (drop (start w v) net), length-drop (start w v) net, l) in
+    let same : (k : Index) (x : ℕ) → x < 3 → field net w x v k ≡ number part (pointStride * rank k + x) =
     λ k x c. field-number net w v k x c
-    ∙ sym (getD-take 9 (drop (start w v) net) (3 * rank k + x) (pos 0) (nine-numbers k x c) ∙ getD-drop (start w v) net (3 * rank k + x) (pos 0)) in
-    let point : (k : Index) → pointAt (field net w) v k ≡ pointAt (λ x u m. number part (3 * rank m + x)) v k =
+    ∙ sym (getD-take stride (drop (start w v) net) (pointStride * rank k + x) (pos 0) (within-record k x c) ∙ getD-drop (start w v) net (pointStride * rank k + x) (pos 0)) in
+    let point : (k : Index) → pointAt (field net w) v k ≡ pointAt (λ x u m. number part (pointStride * rank m + x)) v k =
     λ k t. same k 0 (lit< tt) t ∷ same k 1 (lit< tt) t ∷ same k 2 (lit< tt) t ∷ [] in
-    (λ t. point one t ++ point two t ++ point three t) ∙ array-elements (pos 0) part 9 long
+    (λ t. point one t ++ point two t ++ point three t) ∙ array-elements (pos 0) part stride long
 
 pub no-step : (net : List ℤ) (w h : ℕ) → numbers w h ≤ length net → refinedNet net w h 0 ≡ take (numbers w h) net
 unfolding refinedNet stored
 no-step net w h l =
-    let row : ℕ → List ℤ = λ j. drop (j * (w * 9)) net in
-    let all : h * (w * 9) ≡ numbers w h = omega (arith, mul-assoc h w 9, mul-comm h w) in
-    runs-same h (rowRun (field net w) w) (λ j. take (w * 9) (row j)) (λ j b.
-    runs-same w (λ i. vertexRun (field net w) (vertexAt i j)) (λ i. take 9 (drop (i * 9) (row j))) (λ i a.
-    let place : start w (vertexAt i j) ≡ j * (w * 9) + i * 9 = omega (arith, mul-assoc j w 9) in
-    vertex-part net w (vertexAt i j) (omega (arith, vertex-ends {w = w} {h = h} {i = i} {j = j} a b, l))
-    ∙ ap (λ (n : ℕ). take 9 (drop n net)) place
-    ∙ ap (take 9) (sym (drop-drop (i * 9) (j * (w * 9)) net)))
-    ∙ runs-of-parts (row j) 9 w)
-    ∙ runs-of-parts net (w * 9) h
-    ∙ ap (λ (n : ℕ). take n net) all
+    grid-same (vertexRun (field net w)) (vertexNumbers net w) w h
+    (λ i j a b. vertex-part net w (vertexAt i j) (omega (arith, vertex-ends {w = w} {h = h} {i = i} {j = j} a b, l)))
+    ∙ grid-of-parts stride w h net
 
 -- one step more, of the net that the steps before it left in a slice
 pub step-more : (net : List ℤ) (w h k : ℕ) (old : List ℤ) →

@@ -8,14 +8,14 @@ use lib.IntN.{ℤ, pos}
 use lib.ListN.{take, drop, replicate}
 use Rattle.exact.specs.Rounding.{rounded, floorQuotient}
 use Rattle.exact.specs.Filling.{runs}
-use Rattle.net.specs.Net.{Index, one, two, three, Vertex, vertexAt, Field, controlPoint, controlTriangle, numbers, field}
+use Rattle.net.specs.Net.{gridRow, grid, Index, one, two, three, Vertex, vertexAt, Field, controlPoint, controlTriangle, numbers, field, stride}
 use Rattle.subdivision.specs.Refinement.{sideAfter, exactRefinement, refinement, refinements}
 
 -- a field for each coordinate, 0, 1, 2 for x, y, z
 abbrev pub Fields : Type 0
 Fields = ℕ → Field
 
--- 'per vertex c1, c2, c3, each x, y, z': the control triangle of a vertex, and its nine numbers one after the other
+-- 'per vertex c1, c2, c3, each x, y, z': the control triangle of a vertex, and its numbers one after the other
 abbrev pub pointAt : Fields → Vertex → Index → List ℤ
 pointAt F v l = F 0 v l ∷ F 1 v l ∷ F 2 v l ∷ []
 
@@ -27,10 +27,10 @@ vertexRun F v = pointAt F v one ++ pointAt F v two ++ pointAt F v three
 
 -- 'A lent net stores vertices row by row': the numbers of a net of width w and height h
 abbrev pub rowRun : Fields → ℕ → ℕ → List ℤ
-rowRun F w j = runs w (λ i. vertexRun F (vertexAt i j))
+rowRun F = gridRow (vertexRun F)
 
 unfoldable pub stored : Fields → ℕ → ℕ → List ℤ
-stored F w h = runs h (rowRun F w)
+stored F = grid (vertexRun F)
 
 -- one refinement of the three fields of a stored net
 abbrev pub refinedFields : List ℤ → ℕ → Fields
@@ -55,21 +55,21 @@ scratchNeed k w h = cond (ltb k 2) 0 (numbersAfter (k - 1) w h)
 -- worked cases: of a net of 2 by 2 whose one number that is not 0 is z of c1 of its vertex (0, 0), document 01's 120: as it is stored, no step copies it, and after one step z of the
 -- controls of vertices (0, 0), (1, 0) and (0, 1) are 80, 20, 20, then 0, 60, 60, then 30, 0, 60; 17 by 17 after six steps has 9,455,625 numbers, and one step needs no scratch
 abbrev raised : List ℤ
-raised = pos 0 ∷ pos 0 ∷ pos 120 ∷ replicate 33 (pos 0)
+raised = pos 0 ∷ pos 0 ∷ pos 120 ∷ replicate (numbers 2 2 - 3) (pos 0)
 
 copied : (refinedNet raised 2 2 0 ≡ raised) × (stored (field raised 2) 2 2 ≡ raised)
-unfolding refinedNet stored runs controlTriangle controlPoint
+unfolding refinedNet stored grid runs controlTriangle controlPoint
 copied = (refl, refl)
 
 abbrev heights : ℕ → List ℤ
-heights n = take 9 (drop (9 * n) (refinedNet raised 2 2 1))
+heights n = take stride (drop (stride * n) (refinedNet raised 2 2 1))
 
 refined-once :
     (heights 0 ≡ pos 0 ∷ pos 0 ∷ pos 80 ∷ pos 0 ∷ pos 0 ∷ pos 20 ∷ pos 0 ∷ pos 0 ∷ pos 20 ∷ [])
     × (heights 1 ≡ pos 0 ∷ pos 0 ∷ pos 0 ∷ pos 0 ∷ pos 0 ∷ pos 60 ∷ pos 0 ∷ pos 0 ∷ pos 60 ∷ [])
     × (heights 3 ≡ pos 0 ∷ pos 0 ∷ pos 30 ∷ pos 0 ∷ pos 0 ∷ pos 0 ∷ pos 0 ∷ pos 0 ∷ pos 60 ∷ [])
     × (refinedControls raised 2 (vertexAt 1 0) ≡ (pos 0 ∷ pos 0 ∷ pos 0 ∷ []) ∷ (pos 0 ∷ pos 0 ∷ pos 60 ∷ []) ∷ (pos 0 ∷ pos 0 ∷ pos 60 ∷ []) ∷ [])
-unfolding refinedNet refinedControls stored runs refinement exactRefinement rounded floorQuotient controlTriangle controlPoint
+unfolding refinedNet refinedControls stored grid runs refinement exactRefinement rounded floorQuotient controlTriangle controlPoint
 refined-once = (refl, refl, refl, refl)
 
 sizes : (numbersAfter 6 17 17 ≡ 9455625) × (scratchNeed 6 17 17 ≡ 2368521) × (scratchNeed 1 17 17 ≡ 0) × (scratchNeed 2 2 2 ≡ 81)

@@ -1,12 +1,12 @@
 -- What the steps ask of their caller, who has refused all else, and how a control triangle is stored.
 use mathlib.Core.Path.{_≡_, refl}
 use mathlib.Core.List.{List, [], _∷_}
-use Prim.Native.Nat.{ℕ, _+_, _≤_}
+use Prim.Native.Nat.{ℕ, _*_, _+_, _≤_}
 use lib.IntN.{ℤ, pos}
 use lib.ListN.{length, drop, getD, replicate}
 use lib.Dec.{lit≤}
 use lib.Seq.{sets}
-use Rattle.net.specs.Net.{numbers}
+use Rattle.net.specs.Net.{numbers, pointStride}
 use Rattle.subdivision.specs.Refinement.{sideAfter}
 use Rattle.steps.specs.RefinedNet.{numbersAfter}
 
@@ -32,7 +32,7 @@ StepReady net w h out = Depth w h 1 × (numbers w h ≤ length net) × (numbersA
 
 -- the control points of a control triangle, one stored after the other
 abbrev pub threePoints : List ℤ → ℕ → List (List ℤ) → List ℤ
-threePoints l at c = sets (sets (sets l at (getD c 0 [])) (at + 3) (getD c 1 [])) (at + 6) (getD c 2 [])
+threePoints l at c = sets (sets (sets l at (getD c 0 [])) (at + pointStride) (getD c 1 [])) (at + 2 * pointStride) (getD c 2 [])
 
 -- worked cases: 17 by 17 by six steps; a control triangle over the front of ten numbers
 six-steps : Depth 17 17 6

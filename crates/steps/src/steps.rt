@@ -4,12 +4,13 @@ use crate::sizes::side_after;
 use crate::vertices::refined_vertex;
 use crate::vertices::store_triangle;
 use exact::copy_over;
+use net::STRIDE;
 ghost use mathlib.Core.Path.{_≡_};
 ghost use Prim.Native.Nat.{_-_, _*_, _≤_, _<_};
 ghost use lib.ListN.{length};
 ghost use lib.Seq.{sets};
 ghost use Rattle.exact.specs.Filling.{over};
-ghost use Rattle.net.specs.Net.{numbers};
+ghost use Rattle.net.specs.Net.{numbers, stride};
 ghost use Rattle.subdivision.specs.Refinement.{refinedSide, sideAfter};
 ghost use Rattle.steps.specs.RefinedNet.{refinedFields, rowRun, refinedNet, numbersAfter, scratchNeed};
 ghost use Rattle.steps.specs.Steps.{UnchangedFrom, Depth, StepReady};
@@ -17,14 +18,14 @@ ghost use Rattle.steps.specs.Steps.{UnchangedFrom, Depth, StepReady};
 // Row j of the refined grid.
 fn refine_row(net: &[i32], w: usize, h: usize, j: usize, out: &mut [i32])
     requires { ⌜ StepReady (now net) w h (now out) × (j < refinedSide h) ⌝ }
-    ensures { λ r. ⌜ now (out .exit) ≡ sets (now (out .entry)) (9 * (j * refinedSide w)) (rowRun (refinedFields (now (net .entry)) w) (refinedSide w) j) ⌝ }
+    ensures { λ r. ⌜ now (out .exit) ≡ sets (now (out .entry)) (stride * (j * refinedSide w)) (rowRun (refinedFields (now (net .entry)) w) (refinedSide w) j) ⌝ }
 {
     let wide = 2 * w - 1;
-    let at = 9 * (j * wide);
+    let at = STRIDE * (j * wide);
     let mut i = 0;
     while i < wide {
         let c = refined_vertex(net, w, i, j);
-        store_triangle(c, at + 9 * i, out);
+        store_triangle(c, at + STRIDE * i, out);
         i += 1;
     }
 }
@@ -48,7 +49,7 @@ fn few_steps(net: &[i32], w: usize, h: usize, k: usize, out: &mut [i32])
     ensures { λ r. ⌜ now (out .exit) ≡ over (refinedNet (now (net .entry)) w h k) (now (out .entry)) ⌝ }
 {
     if k == 0 {
-        let n = 9 * (w * h);
+        let n = STRIDE * (w * h);
         copy_over(&net[0..n], out);
     } else {
         refine_once(net, w, h, out);

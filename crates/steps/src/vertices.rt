@@ -1,4 +1,5 @@
 // The refined control triangle at one vertex of the refined grid, and its storage. For one step's loop in `steps.rt`, which is seen to meet what these ask.
+use net::POINT_STRIDE;
 use net::load;
 use net::store_point;
 use rule::refined_triangle;
@@ -6,7 +7,7 @@ use subdivision::weight_table;
 ghost use mathlib.Core.Path.{_≡_};
 ghost use Prim.Native.Nat.{_+_, _≤_, _<_, _/_};
 ghost use lib.ListN.{length};
-ghost use Rattle.net.specs.Net.{vertexAt, start, controlTriangle};
+ghost use Rattle.net.specs.Net.{vertexAt, start, controlTriangle, stride};
 ghost use Rattle.subdivision.specs.WeightTable.{weights, refinedTriangle};
 ghost use Rattle.steps.specs.RefinedNet.{refinedControls};
 ghost use Rattle.steps.specs.Steps.{threePoints};
@@ -22,7 +23,7 @@ fn rule_of_kind(
     m: usize,
     n: usize,
 ) -> [[i32; 3]; 3]
-    requires { ⌜ (kind < 4) × (start w (vertexAt i j) + 9 ≤ length (now net)) × (start w (vertexAt m n) + 9 ≤ length (now net)) ⌝ }
+    requires { ⌜ (kind < 4) × (start w (vertexAt i j) + stride ≤ length (now net)) × (start w (vertexAt m n) + stride ≤ length (now net)) ⌝ }
     ensures { λ r. ⌜ r ≡ refinedTriangle weights kind (controlTriangle (now (net .entry)) w (vertexAt i j)) (controlTriangle (now (net .entry)) w (vertexAt m n)) ⌝ }
 {
     let a = load(net, w, i, j);
@@ -33,7 +34,7 @@ fn rule_of_kind(
 // The control triangle of vertex (i, j) of the refined grid. A kept vertex has no second one: its neighbour along e1 has no weight and may lie outside the net, so its
 // own controls stand there.
 pub fn refined_vertex(net: &[i32], w: usize, i: usize, j: usize) -> [[i32; 3]; 3]
-    requires { ⌜ start w (vertexAt ((i + 1) / 2) ((j + 1) / 2)) + 9 ≤ length (now net) ⌝ }
+    requires { ⌜ start w (vertexAt ((i + 1) / 2) ((j + 1) / 2)) + stride ≤ length (now net) ⌝ }
     ensures { λ r. ⌜ r ≡ refinedControls (now (net .entry)) w (vertexAt i j) ⌝ }
 {
     let m = i / 2;
@@ -53,12 +54,12 @@ pub fn refined_vertex(net: &[i32], w: usize, i: usize, j: usize) -> [[i32; 3]; 3
     }
 }
 
-// The nine numbers of a control triangle, stored from a place on.
+// The numbers of a control triangle, stored from a place on.
 pub fn store_triangle(c: [[i32; 3]; 3], at: usize, out: &mut [i32])
-    requires { ⌜ at + 9 ≤ length (now out) ⌝ }
+    requires { ⌜ at + stride ≤ length (now out) ⌝ }
     ensures { λ r. ⌜ now (out .exit) ≡ threePoints (now (out .entry)) at c ⌝ }
 {
     store_point(c[0], at, out);
-    store_point(c[1], at + 3, out);
-    store_point(c[2], at + 6, out);
+    store_point(c[1], at + POINT_STRIDE, out);
+    store_point(c[2], at + 2 * POINT_STRIDE, out);
 }

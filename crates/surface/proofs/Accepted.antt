@@ -1,18 +1,17 @@
 -- Nets that are taken: their surface points are answered at every place of the grid.
-use mathlib.Core.Path.{_≡_, refl, sym, ap, _∙_}
+use mathlib.Core.Path.{_≡_, refl, sym}
 use mathlib.Core.Bool.{Bool, true, false}
 use mathlib.Core.List.{List}
 use Prim.Native.Nat.{ℕ, _+_, _-_, _*_, _≤_, _<_}
 use native.Mathlib.Omega.{arith}
 use lib.Dec.{ltb}
 use lib.IntN.{ℤ}
-use lib.ListN.{take, drop}
 use borrow.Author.Tests.{le-ltb}
-use Rattle.net.specs.Net.{Index, one, two, three, cornerOf, corner, numbers, start, vertexNumbers}
+use Rattle.net.specs.Net.{Index, one, two, three, cornerOf, corner, start, vertexNumbers, stride}
 use Rattle.net.specs.TurnedAway.{badSide, badSize, anyBeyond, AcceptedNet}
-use Rattle.net.proofs.Faults.{or-none, or-no, cond-false}
+use Rattle.net.proofs.Faults.{or-no, cond-false}
 use Rattle.net.proofs.Places.{vertex-ends}
-use Rattle.net.proofs.Ranges.{any-front}
+use Rattle.net.proofs.Ranges.{part-in-range}
 use Rattle.places.specs.Places.{OnGrid, chosen}
 use Rattle.places.specs.TurnedAway.{noPlace}
 use Rattle.places.proofs.Cells.{cells-in-grid}
@@ -40,16 +39,6 @@ corner-in-net w h p q e g P =
     let near = corner-near (t .down) (t .column) (t .row) P in
     (omega (arith, near .0, c .column), omega (arith, near .1, c .row))
 
--- ---- numbers in range
-
--- a part of a front that is in range
-part-fine : (l : List ℤ) (n at m : ℕ) → at + m ≤ n → anyBeyond (take n l) ≡ false → anyBeyond (take m (drop at l)) ≡ false
-part-fine l n at m a e =
-    let all : at + m + (n - (at + m)) ≡ n = omega arith in
-    let whole = ap (λ (k : ℕ). anyBeyond (take k l)) all ∙ e in
-    let front = or-none (anyBeyond (take (at + m) l)) _ (sym (any-front l (at + m) (n - (at + m))) ∙ whole) .0 in
-    or-none (anyBeyond (take at l)) _ (sym (any-front l at m) ∙ front) .1
-
 -- sides from 2 to 1,025
 pub good-sides : (w h : ℕ) → 2 ≤ w → w ≤ 1025 → 2 ≤ h → h ≤ 1025 → badSize w h ≡ false
 good-sides w h a b c d = sym (or-no (badSide w) (badSide h) (side w a b) (sym (side h c d)))
@@ -64,6 +53,6 @@ point-not-refused net w h a p q g =
     λ P.
     let c = corner-in-net w h p q (a .size) g P in
     let v = corner t P in
-    part-fine net (numbers w h) (start w v) 9 (vertex-ends {w = w} {h = h} {i = v .column} {j = v .row} (c .0) (c .1)) (a .inRange) in
+    part-in-range net w h (start w v) stride (a .inRange) (vertex-ends {w = w} {h = h} {i = v .column} {j = v .row} (c .0) (c .1)) in
     let triangle : triangleBeyond net w t ≡ false = sym (or-no _ _ (fine one) (or-no _ _ (fine two) (sym (fine three)))) in
     sym (cond-false _ 1 _ (a .size) (cond-false _ 6 _ (on-the-grid 1024 w h p q g) (cond-false _ 2 _ (a .long) (cond-false _ 3 _ triangle refl))))

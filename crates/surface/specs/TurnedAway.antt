@@ -1,9 +1,10 @@
 -- Document 01, "Turned away": the rows of surface points, in the order 1, 6, 2, 3.
 use mathlib.Core.Path.{_≡_, refl}
 use mathlib.Core.List.{List, [], _∷_}
-use Prim.Native.Nat.{ℕ}
+use Prim.Native.Nat.{ℕ, _-_}
 use lib.IntN.{ℤ, pos}
 use lib.ListN.{replicate, set}
+use Rattle.net.specs.Net.{numbers}
 use Rattle.net.specs.TurnedAway.{firstFault, badSize, shortNet}
 use Rattle.places.specs.Places.{chosen}
 use Rattle.places.specs.TurnedAway.{noPlace}
@@ -20,11 +21,11 @@ pointRefusal net w h p q =
 
 -- worked cases: document 01's example of 6, the accepted place p = 1,024 at w = 2, and a number beyond the range at a vertex of the triangle and of none
 abbrev zeros : List ℤ
-zeros = replicate 36 (pos 0)
+zeros = replicate (numbers 2 2) (pos 0)
 
 examples :
     (pointRefusal zeros 2 2 1025 0 ≡ 6)
     × (pointRefusal zeros 2 2 1024 0 ≡ 0)
     × (pointRefusal (set zeros 0 (pos 16777217)) 2 2 0 0 ≡ 3)
-    × (pointRefusal (set zeros 35 (pos 16777217)) 2 2 0 0 ≡ 0)
+    × (pointRefusal (set zeros (numbers 2 2 - 1) (pos 16777217)) 2 2 0 0 ≡ 0)
 examples = (refl, refl, refl, refl)

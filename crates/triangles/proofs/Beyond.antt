@@ -6,7 +6,7 @@ use Prim.Native.Nat.{ℕ, _+_, _≤_, _<_}
 use native.Mathlib.Omega.{arith}
 use lib.IntN.{ℤ}
 use lib.ListN.{length}
-use Rattle.net.specs.Net.{Index, one, two, three, Triangle, corner, start, numbers, vertexNumbers, field}
+use Rattle.net.specs.Net.{Index, one, two, three, Triangle, corner, start, numbers, vertexNumbers, field, stride}
 use Rattle.net.specs.TurnedAway.{anyBeyond}
 use Rattle.net.proofs.Places.{vertex-ends}
 use Rattle.net.proofs.Beyond.{cut, cut-vertex, cut-field}
@@ -16,7 +16,7 @@ use Rattle.triangles.specs.TurnedAway.{triangleBeyond}
 use Rattle.triangles.proofs.Corners.{corner-before}
 
 module _ (net : List ℤ) (w h : ℕ) (t : Triangle) (g : InGrid w h (t .column) (t .row)) where
-  pub ends : (P : Index) → start w (corner t P) + 9 ≤ numbers w h
+  pub ends : (P : Index) → start w (corner t P) + stride ≤ numbers w h
   ends P =
       let last = vertex-ends {w = w} {h = h} {i = t .column + 1} {j = t .row + 1} (g .column) (g .row) in
       omega (arith, corner-before w (t .column) (t .row) (g .column) (t .down) P, last)

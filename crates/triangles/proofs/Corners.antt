@@ -8,7 +8,7 @@ use lib.IntN.{ℤ, pos, negsuc, natAbs, _+ℤ_, _-ℤ_}
 use lib.ListN.{length}
 use borrow.Author.Tests.{ltb-false}
 use Rattle.exact.proofs.Expressions.{var, lit, _⊕_, identity}
-use Rattle.net.specs.Net.{Index, one, two, three, rank, next, previous, vertexAt, Triangle, triangleAt, corner, stepColumn, stepRow, numbers, start, vertexNumbers, field}
+use Rattle.net.specs.Net.{Index, one, two, three, rank, next, previous, vertexAt, Triangle, triangleAt, corner, stepColumn, stepRow, numbers, start, vertexNumbers, field, stride}
 use Rattle.net.specs.TurnedAway.{badSize, shortNet, anyBeyond}
 use Rattle.net.proofs.Faults.{or-none}
 use Rattle.net.proofs.Places.{good-size, vertex-ends, field-size}
@@ -35,7 +35,7 @@ corner-before w i j a true two = omega arith
 corner-before w i j a true three = omega arith
 
 pub corner-ends : (net : List ℤ) (w i j : ℕ) → InNet net w i j → (down : Bool) (P : Index) →
-    start w (corner (triangleAt i j down) P) + 9 ≤ length net
+    start w (corner (triangleAt i j down) P) + stride ≤ length net
 corner-ends net w i j l down P = omega (arith, corner-before w i j (l .column) down P, l .ends)
 
 -- a triangle in range has each corner in range

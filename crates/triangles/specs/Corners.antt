@@ -4,7 +4,7 @@ use mathlib.Core.List.{List, [], _∷_}
 use Prim.Native.Nat.{ℕ, _+_, _≤_, _<_}
 use lib.ListN.{length, getD}
 use lib.IntN.{ℤ}
-use Rattle.net.specs.Net.{Index, one, two, three, vertexAt, start, Triangle, corner, controlTriangle, rank, entry}
+use Rattle.net.specs.Net.{Index, one, two, three, vertexAt, start, Triangle, corner, controlTriangle, rank, entry, stride}
 use Rattle.triangles.specs.BezierPoints.{controlList, indexK, indexM, indexN}
 
 -- the corners of both triangles of cell (i, j) lie in the net, and their rows and columns are small numbers
@@ -12,7 +12,7 @@ pub record InNet (net : List ℤ) (w i j : ℕ) : Type 0 where
   pub width : w ≤ 1025
   pub column : i + 1 < w
   pub row : j + 1 < 1025
-  pub ends : start w (vertexAt (i + 1) (j + 1)) + 9 ≤ length net
+  pub ends : start w (vertexAt (i + 1) (j + 1)) + stride ≤ length net
 
 -- the control triangles of a triangle's corners
 abbrev pub cornerControls : List ℤ → ℕ → Triangle → List (List (List ℤ))

@@ -7,7 +7,7 @@ ghost use mathlib.Core.Bool.{_||_};
 ghost use mathlib.Core.List.{[], _∷_};
 ghost use Prim.Native.Nat.{_+_, _≤_, _<_};
 ghost use lib.ListN.{length, getD};
-ghost use Rattle.net.specs.Net.{one, two, three, vertexAt, triangleAt, start, vertexNumbers, entry};
+ghost use Rattle.net.specs.Net.{one, two, three, vertexAt, triangleAt, start, vertexNumbers, entry, stride};
 ghost use Rattle.net.specs.TurnedAway.{anyBeyond};
 ghost use Rattle.triangles.specs.Corners.{InNet, cornerControls, valuesIn, turned, arranged};
 ghost use Rattle.triangles.specs.TurnedAway.{triangleBeyond};
@@ -23,9 +23,9 @@ fn vertices_beyond(
     i3: usize,
     j3: usize,
 ) -> bool
-    requires { ⌜ start w (vertexAt i1 j1) + 9 ≤ length (now net) ⌝ }
-    requires { ⌜ start w (vertexAt i2 j2) + 9 ≤ length (now net) ⌝ }
-    requires { ⌜ start w (vertexAt i3 j3) + 9 ≤ length (now net) ⌝ }
+    requires { ⌜ start w (vertexAt i1 j1) + stride ≤ length (now net) ⌝ }
+    requires { ⌜ start w (vertexAt i2 j2) + stride ≤ length (now net) ⌝ }
+    requires { ⌜ start w (vertexAt i3 j3) + stride ≤ length (now net) ⌝ }
     ensures { λ r. ⌜ r ≡ (anyBeyond (vertexNumbers (now (net .entry)) w (vertexAt i1 j1)) || (anyBeyond (vertexNumbers (now (net .entry)) w (vertexAt i2 j2)) || anyBeyond (vertexNumbers (now (net .entry)) w (vertexAt i3 j3)))) ⌝ }
 {
     if vertex_beyond(net, w, i1, j1) {

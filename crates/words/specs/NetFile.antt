@@ -7,7 +7,7 @@ use lib.Dec.{ltb}
 use lib.IntN.{ℤ, pos, negsuc, _-ℤ_}
 use lib.ListN.{getD, take, drop}
 use Rattle.exact.specs.Filling.{runs}
-use Rattle.net.specs.Net.{number, numbers}
+use Rattle.net.specs.Net.{number, pointStride}
 
 -- 'top 4 bits the kind, 28 bits payload': a word of 32 bits, and its two parts
 abbrev pub word : ℕ → ℕ → ℕ
@@ -59,6 +59,20 @@ firstWord bytes = getD bytes 0 0 * 16777216 + getD bytes 1 0 * 65536 + getD byte
 abbrev pub points : ℕ → ℕ → ℕ
 points w h = 3 * (w * h)
 
+-- a control point of a file has so many words, x, y, z, and so many bytes; two words stand before the first; and where the n-th begins. A net's
+-- record has names of its own.
+abbrev pub pointWords : ℕ
+pointWords = 3
+
+abbrev pub pointSize : ℕ
+pointSize = 4 * pointWords
+
+abbrev pub headSize : ℕ
+headSize = 8
+
+abbrev pub pointPlace : ℕ → ℕ
+pointPlace n = headSize + pointSize * n
+
 -- the bytes of a number, and of the control point that begins at a place of the net
 abbrev pub numberBytes : ℕ → ℤ → List ℕ
 numberBytes kind z = wordBytes (word kind (complement z))
@@ -72,12 +86,12 @@ unfoldable pub netFile : List ℤ → ℕ → ℕ → List ℕ
 netFile net w h =
     wordBytes (word widthKind w)
     ++ wordBytes (word heightKind h)
-    ++ runs (points w h) (λ n. pointBytes net (3 * n))
+    ++ runs (points w h) (λ n. pointBytes net (pointStride * n))
     ++ wordBytes (word endKind 0)
 
--- so many bytes it has: four a word
+-- so many bytes it has: the end word stands after the last control point
 abbrev pub fileSize : ℕ → ℕ → ℕ
-fileSize w h = 4 * (numbers w h + 3)
+fileSize w h = pointPlace (points w h) + 4
 
 -- ---- what stands in the bytes of a file
 
@@ -95,9 +109,9 @@ firstNumber bytes = signed (payloadOf (firstWord bytes))
 unfoldable pub firstPoint : List ℕ → List ℤ
 firstPoint bytes = firstNumber bytes ∷ firstNumber (drop 4 bytes) ∷ firstNumber (drop 8 bytes) ∷ []
 
--- the bytes from control point n on: two words stand before the numbers, and three words are a control point
+-- the bytes from control point n on
 abbrev pub fromPoint : List ℕ → ℕ → List ℕ
-fromPoint file n = drop (8 + 12 * n) file
+fromPoint file n = drop (pointPlace n) file
 
 -- the numbers of the net
 abbrev pub fileNumbers : List ℕ → List ℤ
@@ -107,7 +121,7 @@ fileNumbers file = runs (points (fileWidth file) (fileHeight file)) (λ n. first
 abbrev pub AllBytes : List ℕ → Type 0
 AllBytes file = (i : ℕ) → getD file i 0 < 256
 
--- ---- worked cases: a height word of 17, both ways; -1 and the limits of 28 bits; the word of y = -2; the file of 2 by 3 with the numbers -1 to -54
+-- ---- worked cases: a height word of 17, both ways; -1 and the limits of 28 bits; the word of y = -2; sizes and where control point 5 begins; the file of 2 by 3 with the numbers -1 to -54
 
 seventeen : (wordBytes (word heightKind 17) ≡ 32 ∷ 0 ∷ 0 ∷ 17 ∷ []) × (firstWord (32 ∷ 0 ∷ 0 ∷ 17 ∷ 99 ∷ []) ≡ word heightKind 17)
 unfolding wordBytes firstWord
@@ -127,8 +141,8 @@ minus-two : (numberBytes yKind (negsuc 1) ≡ 79 ∷ 255 ∷ 255 ∷ 254 ∷ [])
 unfolding wordBytes firstWord
 minus-two = (refl, refl)
 
-two-by-two : (fileSize 2 2 ≡ 156) × (points 2 2 ≡ 12)
-two-by-two = (refl, refl)
+two-by-two : (fileSize 2 2 ≡ 156) × (points 2 2 ≡ 12) × (pointPlace 5 ≡ 68)
+two-by-two = (refl, refl, refl)
 
 abbrev downwards : ℕ → List ℤ
 downwards zero = []

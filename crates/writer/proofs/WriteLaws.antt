@@ -3,20 +3,20 @@ use mathlib.Core.Path.{_≡_, refl, sym, ap, _∙_}
 use mathlib.Core.Bool.{Bool, false, _||_}
 use mathlib.Core.List.{List, [], _∷_, _++_}
 use Prim.Native.Nat.{ℕ, _+_, _*_, _≤_}
-use native.Mathlib.Nat.{le-refl}
 use native.Mathlib.Omega.{arith}
 use lib.Dec.{lit<}
 use lib.IntN.{ℤ, pos}
 use lib.ListN.{length, take, length-append}
-use lib.Seq.{sets, getD-take, take-take}
+use lib.Seq.{sets, getD-take}
 use borrow.Author.Tests.{ltb-false}
 use Rattle.exact.specs.Filling.{over, runs}
 use Rattle.exact.proofs.FillingLaws.{length-runs, runs-same, sets-after, sets-over}
-use Rattle.net.specs.Net.{numbers}
+use Rattle.net.specs.Net.{numbers, pointStride}
 use Rattle.net.specs.TurnedAway.{firstFault, outputAfter, badSize, anyBeyond}
-use Rattle.net.proofs.Beyond.{cut, cut-short}
+use Rattle.net.proofs.Beyond.{cut, cut-short, cut-beyond}
+use Rattle.net.proofs.Ranges.{part-in-range}
 use Rattle.net.proofs.Faults.{Clear, none-clear, or-none}
-use Rattle.words.specs.NetFile.{word, widthKind, heightKind, xKind, yKind, zKind, endKind, wordBytes, points, numberBytes, pointBytes, netFile, fileSize}
+use Rattle.words.specs.NetFile.{word, widthKind, heightKind, xKind, yKind, zKind, endKind, wordBytes, points, numberBytes, pointBytes, netFile, fileSize, headSize, pointSize}
 use Rattle.writer.specs.TurnedAway.{writeFaults, writeRefusal, noRoom}
 use Rattle.writer.specs.Answers.{writeOutputWith}
 
@@ -24,22 +24,22 @@ pub word-length : (v : ℕ) → length (wordBytes v) ≡ 4
 unfolding wordBytes
 word-length v = refl
 
-pub point-length : (net : List ℤ) (at : ℕ) → length (pointBytes net at) ≡ 12
+pub point-length : (net : List ℤ) (at : ℕ) → length (pointBytes net at) ≡ pointSize
 unfolding wordBytes pointBytes
 point-length net at = refl
 
-pub points-length : (net : List ℤ) (n : ℕ) → length (runs n (λ i. pointBytes net (3 * i))) ≡ n * 12
-points-length net n = length-runs n 12 (λ i. pointBytes net (3 * i)) (λ i h. point-length net (3 * i))
+pub points-length : (net : List ℤ) (n : ℕ) → length (runs n (λ i. pointBytes net (pointStride * i))) ≡ n * pointSize
+points-length net n = length-runs n pointSize (λ i. pointBytes net (pointStride * i)) (λ i h. point-length net (pointStride * i))
 
 -- the lengths of the file's parts
 module _ (net : List ℤ) (w h : ℕ) where
   abbrev body : List ℕ
-  body = runs (points w h) (λ i. pointBytes net (3 * i))
+  body = runs (points w h) (λ i. pointBytes net (pointStride * i))
 
   abbrev sides : List ℕ
   sides = wordBytes (word widthKind w) ++ wordBytes (word heightKind h)
 
-  sides-length : length sides ≡ 8
+  sides-length : length sides ≡ headSize
   sides-length =
       omega (
         arith,
@@ -48,7 +48,7 @@ module _ (net : List ℤ) (w h : ℕ) where
         word-length (word heightKind h),
       )
 
-  before-end : length (sides ++ body) ≡ 8 + 12 * points w h
+  before-end : length (sides ++ body) ≡ headSize + pointSize * points w h
   before-end = omega (arith, length-append sides body, sides-length, points-length net (points w h))
 
   whole-length : length (sides ++ body ++ wordBytes (word endKind 0)) ≡ fileSize w h
@@ -61,16 +61,16 @@ module _ (net : List ℤ) (w h : ℕ) where
   -- the whole file, stored part after part
   pub file-stored : (out : List ℕ) → fileSize w h ≤ length out →
       sets
-      (sets (sets (sets out 0 (wordBytes (word widthKind w))) 4 (wordBytes (word heightKind h))) 8 body)
-      (8 + 12 * points w h)
+      (sets (sets (sets out 0 (wordBytes (word widthKind w))) 4 (wordBytes (word heightKind h))) headSize body)
+      (headSize + pointSize * points w h)
       (wordBytes (word endKind 0))
       ≡ over (netFile net w h) out
   unfolding netFile
   file-stored out room =
       let e = wordBytes (word endKind 0) in
-      ap (λ (l : List ℕ). sets (sets l 8 body) (8 + 12 * points w h) e)
+      ap (λ (l : List ℕ). sets (sets l headSize body) (headSize + pointSize * points w h) e)
       (sets-after out 0 (wordBytes (word widthKind w)) (wordBytes (word heightKind h)) (omega (arith, word-length (word widthKind w))))
-      ∙ ap (λ (l : List ℕ). sets l (8 + 12 * points w h) e) (sets-after out 0 sides body (omega (arith, sides-length)))
+      ∙ ap (λ (l : List ℕ). sets l (headSize + pointSize * points w h) e) (sets-after out 0 sides body (omega (arith, sides-length)))
       ∙ sets-after out 0 (sides ++ body) e (omega (arith, before-end))
       ∙ sets-over (sides ++ body ++ e) out (omega (arith, whole-length, room))
 
@@ -95,12 +95,11 @@ pub cut-file : (net : List ℤ) (w h : ℕ) → netFile (cut net w h) w h ≡ ne
 unfolding netFile
 cut-file net w h =
     ap (λ (l : List ℕ). wordBytes (word widthKind w) ++ wordBytes (word heightKind h) ++ l ++ wordBytes (word endKind 0))
-    (runs-same (points w h) (λ i. pointBytes (cut net w h) (3 * i)) (λ i. pointBytes net (3 * i)) (λ i k. cut-point net (numbers w h) (3 * i) (omega (arith, k))))
+    (runs-same (points w h) (λ i. pointBytes (cut net w h) (pointStride * i)) (λ i. pointBytes net (pointStride * i)) (λ i k. cut-point net (numbers w h) (pointStride * i) (omega (arith, k))))
 
 pub cut-write-refusal : (net : List ℤ) (w h : ℕ) (short : Bool) → writeRefusal net w h short ≡ writeRefusal (cut net w h) w h short
 cut-write-refusal net w h short =
-    let same = sym (take-take (numbers w h) (numbers w h) net (le-refl (numbers w h))) in
-    λ t. firstFault ((badSize w h, 1) ∷ (cut-short net w h t, 2) ∷ (short, 5) ∷ (anyBeyond (same t), 3) ∷ [])
+    λ t. firstFault ((badSize w h, 1) ∷ (cut-short net w h t, 2) ∷ (short, 5) ∷ (cut-beyond net w h t, 3) ∷ [])
 
 pub cut-write-output : (net : List ℤ) (w h : ℕ) (short : Bool) (out : List ℕ) → writeOutputWith net w h short out ≡ writeOutputWith (cut net w h) w h short out
 cut-write-output net w h short out = λ t. outputAfter (cut-write-refusal net w h short t) (sym (cut-file net w h) t) out
@@ -126,5 +125,5 @@ good-net net w h other room e =
       size = k .0;
       long = ltb-false (length net) (numbers w h) (k .1 .0);
       room-enough = ltb-false room (fileSize w h) (or-none other (noRoom w h room) (k .1 .1 .0) .1);
-      range = k .1 .1 .1 .0;
+      range = part-in-range net w h 0 (numbers w h) (k .1 .1 .1 .0) (omega arith);
     }

@@ -5,15 +5,15 @@ use mathlib.Core.List.{List, [], _∷_}
 use Prim.Native.Nat.{ℕ}
 use lib.Dec.{ltb}
 use lib.IntN.{ℤ, pos}
-use lib.ListN.{take, replicate}
+use lib.ListN.{replicate}
 use Rattle.net.specs.Net.{numbers}
-use Rattle.net.specs.TurnedAway.{Fault, firstFault, badSize, shortNet, anyBeyond}
+use Rattle.net.specs.TurnedAway.{Fault, firstFault, badSize, shortNet, netBeyond}
 use Rattle.words.specs.NetFile.{fileSize}
 
--- the writer: 1, 2, 5, 3, and 3 looks at the 9wh numbers; `short` is whether a lent output is too short
+-- the writer: 1, 2, 5, 3, and 3 looks at the whole net; `short` is whether a lent output is too short
 abbrev pub writeFaults : List ℤ → ℕ → ℕ → Bool → List Fault
 writeFaults net w h short =
-    (badSize w h, 1) ∷ (shortNet net w h, 2) ∷ (short, 5) ∷ (anyBeyond (take (numbers w h) net), 3) ∷ []
+    (badSize w h, 1) ∷ (shortNet net w h, 2) ∷ (short, 5) ∷ (netBeyond net w h, 3) ∷ []
 
 abbrev pub writeRefusal : List ℤ → ℕ → ℕ → Bool → ℕ
 writeRefusal net w h short = firstFault (writeFaults net w h short)
@@ -23,8 +23,9 @@ abbrev pub noRoom : ℕ → ℕ → ℕ → Bool
 noRoom w h room = ltb room (fileSize w h)
 
 abbrev level : List ℤ
-level = replicate 36 (pos 5)
+level = replicate (numbers 2 2) (pos 5)
 
 -- worked cases: document 01's example of 5, and a byte more
 write-examples : (writeRefusal level 2 2 (noRoom 2 2 155) ≡ 5) × (writeRefusal level 2 2 (noRoom 2 2 156) ≡ 0)
+unfolding netBeyond
 write-examples = (refl, refl)

@@ -1,8 +1,12 @@
 // The writer: nothing is stored before it is known that nothing is refused. What the inner functions ask is met by those below them in this file.
 use crate::answers::WriteAnswer;
+use net::POINT_STRIDE;
+use net::STRIDE;
 use net::bad_size;
 use net::net_beyond;
 use net::short_net;
+use words::HEAD_SIZE;
+use words::POINT_SIZE;
 use words::store_number;
 use words::store_word;
 ghost use mathlib.Core.Path.{_≡_};
@@ -11,11 +15,19 @@ ghost use Prim.Native.Nat.{_+_, _*_, _≤_, _<_};
 ghost use lib.ListN.{length};
 ghost use lib.Seq.{sets};
 ghost use Rattle.exact.specs.Filling.{over, runs};
-ghost use Rattle.net.specs.Net.{numbers};
+ghost use Rattle.net.specs.Net.{numbers, pointStride};
 ghost use Rattle.net.specs.TurnedAway.{badSize, anyBeyond};
-ghost use Rattle.words.specs.NetFile.{pointBytes, netFile, fileSize};
+ghost use Rattle.words.specs.NetFile.{headSize, pointSize, pointBytes, netFile, fileSize};
 ghost use Rattle.writer.specs.TurnedAway.{noRoom, writeRefusal};
 ghost use Rattle.writer.specs.Answers.{writeTold, writeAnswerWith, writeOutputWith, writeAnswer, writeOutput};
+
+// So many bytes the file of a net of an accepted size has.
+fn file_size(w: usize, h: usize) -> usize
+    requires { ⌜ badSize w h ≡ false ⌝ }
+    ensures { λ r. ⌜ r ≡ fileSize w h ⌝ }
+{
+    HEAD_SIZE + POINT_SIZE * (3 * (w * h)) + 4
+}
 
 // The number of the first fault, 1, 2, 5 or 3, or 0 where there is none.
 fn write_refusal(net: &[i32], w: usize, h: usize, short: bool, room: usize) -> u32
@@ -30,11 +42,10 @@ fn write_refusal(net: &[i32], w: usize, h: usize, short: bool, room: usize) -> u
     if short {
         return 5;
     }
-    let vertices = w * h;
-    if room < 4 * (9 * vertices + 3) {
+    if room < file_size(w, h) {
         return 5;
     }
-    if net_beyond(net, vertices) {
+    if net_beyond(net, w, h) {
         return 3;
     }
     0
@@ -42,7 +53,7 @@ fn write_refusal(net: &[i32], w: usize, h: usize, short: bool, room: usize) -> u
 
 // The words of the control point that begins at a place of the net.
 fn store_numbers(net: &[i32], from: usize, at: usize, out: &mut [u8])
-    requires { ⌜ (from + 3 ≤ length (now net)) × (at + 12 ≤ length (now out)) × (anyBeyond (now net) ≡ false) ⌝ }
+    requires { ⌜ (from + 3 ≤ length (now net)) × (at + pointSize ≤ length (now out)) × (anyBeyond (now net) ≡ false) ⌝ }
     ensures { λ r. ⌜ now (out .exit) ≡ sets (now (out .entry)) at (pointBytes (now (net .entry)) from) ⌝ }
 {
     let x = net[from];
@@ -55,12 +66,12 @@ fn store_numbers(net: &[i32], from: usize, at: usize, out: &mut [u8])
 
 // The words of the first n control points, after two words.
 fn store_points(net: &[i32], n: usize, out: &mut [u8])
-    requires { ⌜ (3 * n ≤ length (now net)) × (8 + 12 * n ≤ length (now out)) × (anyBeyond (now net) ≡ false) ⌝ }
-    ensures { λ r. ⌜ now (out .exit) ≡ sets (now (out .entry)) 8 (runs n (λ i. pointBytes (now (net .entry)) (3 * i))) ⌝ }
+    requires { ⌜ (pointStride * n ≤ length (now net)) × (headSize + pointSize * n ≤ length (now out)) × (anyBeyond (now net) ≡ false) ⌝ }
+    ensures { λ r. ⌜ now (out .exit) ≡ sets (now (out .entry)) headSize (runs n (λ i. pointBytes (now (net .entry)) (pointStride * i))) ⌝ }
 {
     let mut i = 0;
     while i < n {
-        store_numbers(net, 3 * i, 8 + 12 * i, out);
+        store_numbers(net, POINT_STRIDE * i, HEAD_SIZE + POINT_SIZE * i, out);
         i += 1;
     }
 }
@@ -74,7 +85,7 @@ fn store_file(net: &[i32], w: usize, h: usize, out: &mut [u8])
     store_word(1, w as u32, 0, out);
     store_word(2, h as u32, 4, out);
     store_points(net, n, out);
-    store_word(6, 0, 8 + 12 * n, out);
+    store_word(6, 0, HEAD_SIZE + POINT_SIZE * n, out);
 }
 
 // The same as `write`, for the crates above: `short` is whether another output that they were lent is too short, which is 5 too.
@@ -84,9 +95,9 @@ pub fn write_with(net: &[i32], w: usize, h: usize, short: bool, out: &mut [u8]) 
 {
     let refusal = write_refusal(net, w, h, short, out.len());
     if refusal == 0 {
-        let n = 9 * (w * h);
+        let n = STRIDE * (w * h);
         store_file(&net[0..n], w, h, out);
-        let count = 4 * (n + 3);
+        let count = file_size(w, h);
         WriteAnswer::Written(count)
     } else {
         WriteAnswer::Refused(refusal)

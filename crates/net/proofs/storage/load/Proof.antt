@@ -24,6 +24,9 @@ load-point-requires-2 c κs = search needs
 add-load-point-2 : tie.Need-add-load-point-2
 add-load-point-2 c = search needs
 
+mul-load-point : tie.Need-mul-load-point
+mul-load-point c = search needs
+
 load-point-requires-3 : tie.Need-load-point-requires-3
 load-point-requires-3 c κs = search needs
 
@@ -42,6 +45,7 @@ load-spec =
     load-point-requires
     add-load-point
     load-point-requires-2
+    mul-load-point
     add-load-point-2
     load-point-requires-3
     returns)

@@ -1,103 +1,19 @@
--- `net::storage::net_beyond` meets its contract: of the vertices before i no number is beyond the range.
-use mathlib.Core.Path.{_≡_, refl, sym, ap, _∙_}
-use mathlib.Core.Bool.{false}
-use mathlib.Core.List.{List}
-use Prim.Native.Nat.{ℕ, _+_, _-_, _*_, _≤_}
+-- `net::storage::net_beyond` meets its contract: the first numbers of a net are those of its vertices.
 use native.Mathlib.Omega.{arith}
-use lib.ListN.{take, drop}
-use lib.IntN.{ℤ}
-use borrow.Author.Needs.{needs}
-use Rattle.net.specs.TurnedAway.{anyBeyond}
-use Rattle.net.proofs.Faults.{or-no}
-use Rattle.net.proofs.Ranges.{any-front, any-longer}
+use Rattle.net.specs.TurnedAway.{netBeyond}
+use Rattle.net.proofs.Places.{good-size, few-vertices}
 use Rattle.net.proofs.storage.net_beyond.Statement.{statement}
 use Rattle.net.proofs.storage.net_beyond.Tie as tie
 
-abbrev Inv-loop : tie.InvT-loop
-Inv-loop net n i₀ i = (i ≤ n) × (anyBeyond (take (9 * i) net) ≡ false)
+mul-first-beyond : tie.Need-mul-first-beyond
+mul-first-beyond c = omega (arith, few-vertices (good-size (c .args .w) (c .args .h) (c .pre .0)))
 
-abbrev μ-loop : tie.MeasureT-loop
-μ-loop net n i₀ i = n - i
+first-beyond-requires : tie.Need-first-beyond-requires
+first-beyond-requires c κs = c .pre .1
 
--- what was told of the nine numbers at i is told of all up to them
-module _ (c : tie.After-any-beyond Inv-loop μ-loop) where
-  abbrev net : List ℤ
-  net = c .before .before .before .before .args .net .now
-
-  abbrev i : ℕ
-  i = c .before .before .before .loop .i
-
-  up-to : c .any-beyond .result ≡ anyBeyond (take (9 * i + 9) net)
-  up-to =
-      let nine : 9 * i + 9 - 9 * i ≡ 9 = omega arith in
-      c .any-beyond .ensures
-      ∙ ap (λ (n : ℕ). anyBeyond (take n (drop (9 * i) net))) nine
-      ∙ or-no (anyBeyond (take (9 * i) net)) (anyBeyond (take 9 (drop (9 * i) net))) (c .before .before .before .loop .inv .1) refl
-      ∙ sym (any-front net (9 * i) 9)
-
-loop-holds : tie.Need-loop-holds Inv-loop μ-loop
-loop-holds c = (omega arith, refl)
-
-mul-at : tie.Need-mul-at Inv-loop μ-loop
-mul-at c = search needs
-
-add-any-beyond : tie.Need-add-any-beyond Inv-loop μ-loop
-add-any-beyond c = search needs
-
-mul-any-beyond : tie.Need-mul-any-beyond Inv-loop μ-loop
-mul-any-beyond c = search needs
-
-sub-any-beyond : tie.Need-sub-any-beyond Inv-loop μ-loop
-sub-any-beyond c = search needs
-
-part-any-beyond-start : tie.Need-part-any-beyond-start Inv-loop μ-loop
-part-any-beyond-start c = search needs
-
-part-any-beyond-end : tie.Need-part-any-beyond-end Inv-loop μ-loop
-part-any-beyond-end c = search needs
-
-any-beyond-requires : tie.Need-any-beyond-requires Inv-loop μ-loop
-any-beyond-requires c κs = search needs
-
-returns : tie.Need-returns Inv-loop μ-loop
-returns c =
-    let k = c .before in
-    let n = k .before .before .before .before .args .n in
-    any-longer (net k) (9 * i k + 9) (9 * n) (omega arith) (sym (up-to k) ∙ c .if1 .taken)
-
-add-i : tie.Need-add-i Inv-loop μ-loop
-add-i c = search needs
-
-loop-less : tie.Need-loop-less Inv-loop μ-loop
-loop-less c = search needs
-
-loop-again : tie.Need-loop-again Inv-loop μ-loop
-loop-again c =
-    let k = c .before in
-    let next : 9 * (i k + 1) ≡ 9 * i k + 9 = omega arith in
-    (search needs, ap (λ (n : ℕ). anyBeyond (take n (net k))) next ∙ sym (up-to k) ∙ c .if1 .left)
-
-returns-2 : tie.Need-returns-2 Inv-loop μ-loop
-returns-2 c =
-    let all : c .before .loop .i ≡ c .before .before .args .n = omega arith in
-    sym (c .before .loop .inv .1) ∙ ap (λ (n : ℕ). anyBeyond (take (9 * n) (c .before .before .args .net .now))) all
+returns : tie.Need-returns
+unfolding netBeyond
+returns c = c .first-beyond .ensures
 
 pub net-beyond-spec : {M : Type 1} → statement M
-net-beyond-spec =
-    tie.close
-    (tie.spec
-    Inv-loop
-    μ-loop
-    loop-holds
-    mul-at
-    add-any-beyond
-    mul-any-beyond
-    sub-any-beyond
-    part-any-beyond-start
-    part-any-beyond-end
-    any-beyond-requires
-    returns
-    add-i
-    loop-less
-    loop-again
-    returns-2)
+net-beyond-spec = tie.close (tie.spec mul-first-beyond first-beyond-requires returns)

@@ -4,7 +4,7 @@ use Prim.Native.Nat.{ℕ, _+_, _-_}
 use native.Mathlib.Omega.{arith}
 use lib.ListN.{take, drop}
 use borrow.Author.Needs.{needs}
-use Rattle.net.specs.Net.{vertexAt, start}
+use Rattle.net.specs.Net.{vertexAt, start, stride}
 use Rattle.net.specs.TurnedAway.{anyBeyond}
 use Rattle.net.proofs.storage.vertex_beyond.Statement.{statement}
 use Rattle.net.proofs.storage.vertex_beyond.Tie as tie
@@ -39,8 +39,8 @@ any-beyond-requires c κs = search needs
 returns : tie.Need-returns
 returns c =
     let at = start (c .before .before .args .w) (vertexAt (c .before .before .args .i) (c .before .before .args .j)) in
-    let nine : at + 9 - at ≡ 9 = omega arith in
-    c .any-beyond .ensures ∙ ap (λ (n : ℕ). anyBeyond (take n (drop at (c .before .before .args .net .now)))) nine
+    let all : at + stride - at ≡ stride = omega arith in
+    c .any-beyond .ensures ∙ ap (λ (n : ℕ). anyBeyond (take n (drop at (c .before .before .args .net .now)))) all
 
 pub vertex-beyond-spec : {M : Type 1} → statement M
 vertex-beyond-spec =

@@ -1,12 +1,12 @@
 -- `net::vertices::vertex` meets its contract: an accepted vertex lies in the net.
 use mathlib.Core.Path.{_≡_, sym, ap, _∙_}
 use mathlib.Core.List.{List}
-use Prim.Native.Nat.{ℕ, _+_, _-_, _≤_}
+use Prim.Native.Nat.{ℕ, _+_, _-_, _*_, _≤_}
 use native.Mathlib.Omega.{arith}
 use lib.IntN.{ℤ}
 use lib.ListN.{length, take, drop}
 use borrow.Author.Needs.{needs}
-use Rattle.net.specs.Net.{vertexAt, start}
+use Rattle.net.specs.Net.{vertexAt, start, stride}
 use Rattle.net.specs.TurnedAway.{vertexRefusal}
 use Rattle.net.proofs.Places.{good-vertex, vertex-lies, accepted-part, refused-part}
 use Rattle.net.proofs.vertices.vertex.Statement.{statement}
@@ -31,7 +31,7 @@ module _ (c : tie.Then1) where
   none : vertexRefusal net w h i j ≡ 0
   none = sym (c .before .vertex-refusal .ensures) ∙ c .if1 .taken
 
-  lies : (start w (vertexAt i j) + 9 ≤ length net) × (start w (vertexAt i j) + 9 ≤ 9455625)
+  lies : (start w (vertexAt i j) + stride ≤ length net) × (start w (vertexAt i j) + stride ≤ stride * 1050625)
   lies = vertex-lies net w h i j (good-vertex net w h i j none)
 
 vertex-refusal-requires : tie.Need-vertex-refusal-requires
@@ -74,8 +74,8 @@ returns : tie.Need-returns
 returns c =
     let t = c .before in
     let at = start (w t) (vertexAt (i t) (j t)) in
-    let nine : at + 9 - at ≡ 9 = omega arith in
-    ap (λ (n : ℕ). take n (drop at (net t))) nine ∙ accepted-part (net t) (w t) (h t) (i t) (j t) (none t)
+    let all : at + stride - at ≡ stride = omega arith in
+    ap (λ (n : ℕ). take n (drop at (net t))) all ∙ accepted-part (net t) (w t) (h t) (i t) (j t) (none t)
 
 returns-2 : tie.Need-returns-2
 returns-2 c = refused-part _ _ _ _ _ (λ e. c .before .if1 .left (c .before .before .vertex-refusal .ensures ∙ e))

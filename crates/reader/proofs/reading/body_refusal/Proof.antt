@@ -8,7 +8,7 @@ use borrow.Author.Needs.{needs}
 use Rattle.exact.specs.Filling.{runs}
 use Rattle.net.specs.TurnedAway.{firstFault}
 use Rattle.net.proofs.Faults.{Clear, fault-after}
-use Rattle.words.specs.NetFile.{fromPoint}
+use Rattle.words.specs.NetFile.{fromPoint, headSize, pointSize}
 use Rattle.reader.specs.TurnedAway.{pointFaults, endFaults}
 use Rattle.reader.proofs.Parsing.{refuses, passes, part-from}
 use Rattle.reader.proofs.ReadLaws.{points-there, points-numbered}
@@ -26,7 +26,7 @@ module _ (c : tie.Else1) where
   clear : Clear (runs n (λ i. pointFaults (fromPoint file i)))
   clear = passes (runs n (λ i. pointFaults (fromPoint file i))) (points-numbered file n) (c .before .points-refusal .ensures) (c .if1 .left)
 
-  there : 8 + 12 * n ≤ length file
+  there : headSize + pointSize * n ≤ length file
   there = points-there file n (c .before .before .before .pre) clear
 
 points-refusal-requires : tie.Need-points-refusal-requires
@@ -60,7 +60,7 @@ returns-2 : tie.Need-returns-2
 returns-2 c =
     let at = c .before .before in
     c .end-refusal .ensures
-    ∙ ap (λ (l : List ℕ). firstFault (endFaults l)) (part-from (file at) (8 + 12 * n at))
+    ∙ ap (λ (l : List ℕ). firstFault (endFaults l)) (part-from (file at) (headSize + pointSize * n at))
     ∙ fault-after (runs (n at) (λ i. pointFaults (fromPoint (file at) i))) (endFaults (fromPoint (file at) (n at))) (clear at)
 
 pub body-refusal-spec : {M : Type 1} → statement M

@@ -8,7 +8,8 @@ use lib.Seq.{sets}
 use borrow.Author.Needs.{needs}
 use Rattle.exact.specs.Filling.{runs, over}
 use Rattle.exact.proofs.FillingLaws.{over-none, over-more}
-use Rattle.words.specs.NetFile.{firstPoint, fromPoint}
+use Rattle.net.specs.Net.{pointStride}
+use Rattle.words.specs.NetFile.{firstPoint, fromPoint, headSize, pointSize}
 use Rattle.reader.proofs.Parsing.{part-from}
 use Rattle.reader.proofs.reading.load_points.Statement.{statement}
 use Rattle.reader.proofs.reading.load_points.Tie as tie
@@ -40,8 +41,8 @@ part-first-point-end c = search needs
 first-point-requires : tie.Need-first-point-requires Inv-loop μ-loop
 first-point-requires c κs =
     let file = c .before .before .before .before .args .file .now in
-    let at = 8 + 12 * c .before .before .loop .i in
-    let room : 8 + 12 * c .before .before .before .before .args .n ≤ length file = c .before .before .before .before .pre .0 in
+    let at = headSize + pointSize * c .before .before .loop .i in
+    let room : headSize + pointSize * c .before .before .before .before .args .n ≤ length file = c .before .before .before .before .pre .0 in
     omega (arith, ap length (part-from file at), length-drop at file)
 
 mul-store-point : tie.Need-mul-store-point Inv-loop μ-loop
@@ -64,8 +65,8 @@ loop-again c =
     let old = start .args .net .now in
     let i = c .before .before .before .before .before .before .loop .i in
     let inv = c .before .before .before .before .before .before .loop .inv in
-    let room : 3 * start .args .n ≤ length old = start .pre .1 in
-    let point = c .before .before .before .first-point .ensures ∙ ap firstPoint (part-from file (8 + 12 * i)) in (
+    let room : pointStride * start .args .n ≤ length old = start .pre .1 in
+    let point = c .before .before .before .first-point .ensures ∙ ap firstPoint (part-from file (headSize + pointSize * i)) in (
       search needs,
       search needs,
       c .before .store-point .ensures

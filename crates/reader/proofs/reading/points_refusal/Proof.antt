@@ -8,7 +8,7 @@ use borrow.Author.Needs.{needs}
 use Rattle.exact.specs.Filling.{runs}
 use Rattle.net.specs.TurnedAway.{Fault, firstFault}
 use Rattle.net.proofs.Faults.{fault-in-front, fault-in-runs}
-use Rattle.words.specs.NetFile.{fromPoint}
+use Rattle.words.specs.NetFile.{fromPoint, headSize, pointSize}
 use Rattle.reader.specs.TurnedAway.{pointFaults}
 use Rattle.reader.proofs.Parsing.{passes, point-numbered, point-long, part-from}
 use Rattle.reader.proofs.ReadLaws.{points-numbered}
@@ -29,7 +29,7 @@ module _ (c : tie.After-whole-points-refusal) where
   abbrev faults : ℕ → List Fault
   faults i = pointFaults (fromPoint file i)
 
-  fewer : whole ≡ min n ((length file - 8) / 12)
+  fewer : whole ≡ min n ((length file - headSize) / pointSize)
   fewer = c .before .lesser .ensures
 
 -- and the one after them, which is cut
@@ -38,13 +38,13 @@ module _ (c : tie.After-point-refusal) where
   at = c .before .before .before .before
 
   told : c .point-refusal .result ≡ firstFault (faults at (whole at))
-  told = c .point-refusal .ensures ∙ ap (λ (l : List ℕ). firstFault (pointFaults l)) (part-from (file at) (8 + 12 * whole at))
+  told = c .point-refusal .ensures ∙ ap (λ (l : List ℕ). firstFault (pointFaults l)) (part-from (file at) (headSize + pointSize * whole at))
 
   refused : c .point-refusal .result ≡ 0 → ⊥
   refused z =
       let k = passes (faults at (whole at)) (point-numbered (fromPoint (file at) (whole at))) told z in
       let last : whole at < n at = c .before .before .if2 .taken in
-      omega (arith, fewer at, last, point-long (fromPoint (file at) (whole at)) k, length-drop (8 + 12 * whole at) (file at))
+      omega (arith, fewer at, last, point-long (fromPoint (file at) (whole at)) k, length-drop (headSize + pointSize * whole at) (file at))
 
 sub-lesser : tie.Need-sub-lesser
 sub-lesser c = search needs

@@ -11,7 +11,7 @@ use Rattle.exact.specs.Filling.{runs, over}
 use Rattle.net.specs.TurnedAway.{firstFault}
 use Rattle.net.proofs.Places.{good-size, few-vertices}
 use Rattle.net.proofs.Faults.{Clear, none-clear, clear-parts}
-use Rattle.words.specs.NetFile.{firstPoint, fromPoint, fileWidth, fileHeight, points}
+use Rattle.words.specs.NetFile.{firstPoint, fromPoint, fileWidth, fileHeight, points, headSize, pointSize}
 use Rattle.reader.specs.TurnedAway.{pointFaults, endFaults, headFaults, bodyFaults, shortFor}
 use Rattle.reader.specs.Answers.{readTold}
 use Rattle.reader.proofs.ReadLaws.{GoodHead, good-head, points-there, body-numbered, head-found, head-refused, body-refused, taken}
@@ -70,7 +70,7 @@ module _ (c : tie.Else1) where
   none : firstFault (bodyFaults (file at) n) ≡ 0
   none = sym (c .before .body-refusal .ensures ∙ ap (λ (m : ℕ). firstFault (bodyFaults (file at) m)) (count at)) ∙ c .if1 .left
 
-  there : 8 + 12 * (3 * (w at * h at)) ≤ length (file at)
+  there : headSize + pointSize * (3 * (w at * h at)) ≤ length (file at)
   there =
       let clear = clear-parts (runs n (λ i. pointFaults (fromPoint (file at) i))) (endFaults (fromPoint (file at) n)) (none-clear (bodyFaults (file at) n) (body-numbered (file at) n) none) in
       omega (arith, points-there (file at) n (good at .there) (clear .0), count at)

@@ -9,7 +9,7 @@ use Rattle.exact.specs.Filling.{runs}
 use Rattle.exact.proofs.FillingLaws.{runs-suc}
 use Rattle.net.specs.TurnedAway.{Fault, firstFault}
 use Rattle.net.proofs.Faults.{Clear, clear-none, clear-append, fault-in-runs}
-use Rattle.words.specs.NetFile.{fromPoint}
+use Rattle.words.specs.NetFile.{fromPoint, headSize, pointSize}
 use Rattle.reader.specs.TurnedAway.{pointFaults}
 use Rattle.reader.proofs.Parsing.{passes, point-numbered, point-within}
 use Rattle.reader.proofs.reading.whole_points_refusal.Statement.{statement}
@@ -37,12 +37,12 @@ module _ (c : tie.After-point-refusal Inv-loop μ-loop) where
 
   refusal : c .point-refusal .result ≡ firstFault (faults at)
   refusal =
-      let from = 8 + 12 * at in
-      let twelve : from + 12 - from ≡ 12 = omega arith in
-      let there : 8 + 12 * count ≤ length file = c .before .before .before .before .before .pre in
+      let from = headSize + pointSize * at in
+      let all : from + pointSize - from ≡ pointSize = omega arith in
+      let there : headSize + pointSize * count ≤ length file = c .before .before .before .before .before .pre in
       let below : at < count = c .before .before .loop-test .taken in
       c .point-refusal .ensures
-      ∙ ap (λ (n : ℕ). firstFault (pointFaults (take n (drop from file)))) twelve
+      ∙ ap (λ (n : ℕ). firstFault (pointFaults (take n (drop from file)))) all
       ∙ ap firstFault (point-within (fromPoint file at) (omega (arith, length-drop from file, there, below)))
 
 loop-holds : tie.Need-loop-holds Inv-loop μ-loop

@@ -2,14 +2,10 @@
 use mathlib.Core.Path.{_≡_, refl, sym, _∙_}
 use mathlib.Core.Bool.{Bool, false, cond, _||_}
 use Prim.Native.Nat.{ℕ}
-use native.Mathlib.Omega.{arith}
-use lib.ListN.{take}
 use borrow.Author.Needs.{needs}
 use borrow.Author.Tests.{ltb-false}
-use Rattle.net.specs.Net.{numbers}
-use Rattle.net.specs.TurnedAway.{firstFault, shortNet, anyBeyond}
+use Rattle.net.specs.TurnedAway.{firstFault, shortNet, netBeyond}
 use Rattle.net.proofs.Faults.{or-yes, or-no, cond-true, cond-false}
-use Rattle.net.proofs.Places.{good-size, few-vertices}
 use Rattle.refine.specs.TurnedAway.{tooShort, netFaults}
 use Rattle.refine.proofs.depth.net_refusal.Statement.{statement}
 use Rattle.refine.proofs.depth.net_refusal.Tie as tie
@@ -25,7 +21,7 @@ module _ (c : tie.Else1) where
   long = sym (c .before .short-net .ensures) ∙ c .if1 .left
 
   -- past 2
-  past : {n : ℕ} → n ≡ cond short 5 (cond (anyBeyond (take (numbers (start .args .w) (start .args .h)) (start .args .net .now))) 3 0) →
+  past : {n : ℕ} → n ≡ cond short 5 (cond (netBeyond (start .args .net .now) (start .args .w) (start .args .h)) 3 0) →
       n ≡ firstFault (netFaults (start .args .net .now) (start .args .w) (start .args .h) short)
   past e = cond-false _ 2 _ long e
 
@@ -48,13 +44,8 @@ too-short-requires c κs = search needs
 returns-3 : tie.Need-returns-3
 returns-3 c = past (c .before .before .before) (cond-true _ 5 _ (sym (or-no (c .before .before .before .before .before .args .short) _ (c .before .before .if2 .left) (sym (c .if3 .taken) ∙ c .before .too-short .ensures))))
 
-mul-net-beyond : tie.Need-mul-net-beyond
-mul-net-beyond c =
-    let s = c .before .before .before .before .before in
-    omega (arith, few-vertices (good-size (s .args .w) (s .args .h) (s .pre .0)))
-
 net-beyond-requires : tie.Need-net-beyond-requires
-net-beyond-requires c κs = ltb-false _ _ (long (c .before .before .before))
+net-beyond-requires c κs = (c .before .before .before .before .before .pre .0, ltb-false _ _ (long (c .before .before .before)))
 
 returns-4 : tie.Need-returns-4
 returns-4 c = past (c .before .before .before .before .before) (cond-false _ 5 _ (roomy (c .before .before)) (cond-true _ 3 0 (sym (c .before .net-beyond .ensures) ∙ c .if4 .taken)))
@@ -71,7 +62,6 @@ net-refusal-spec =
     returns-2
     too-short-requires
     returns-3
-    mul-net-beyond
     net-beyond-requires
     returns-4
     returns-5)

@@ -3,6 +3,7 @@ use mathlib.Core.Path.{sym, subst}
 use Prim.Native.Nat.{ℕ, _*_, _≤_}
 use native.Mathlib.Omega.{arith}
 use lib.Dec.{ltb}
+use Rattle.net.specs.Net.{stride}
 use Rattle.steps.specs.Steps.{Depth}
 use Rattle.steps.proofs.Sides.{wide-ready, high-ready, few-after}
 use Rattle.refine.proofs.Depths.{good-depth}
@@ -28,7 +29,7 @@ mul-result-2 : tie.Need-mul-result-2
 mul-result-2 c = omega (arith, few c)
 
 returns : tie.Need-returns
-returns c = λ t. ltb (c .before .before .args .room) (9 * (c .before .side-after .ensures t * c .side-after2 .ensures t))
+returns c = λ t. ltb (c .before .before .args .room) (stride * (c .before .side-after .ensures t * c .side-after2 .ensures t))
 
 pub shorter-than-spec : {M : Type 1} → statement M
 shorter-than-spec =

@@ -8,9 +8,10 @@ use lib.Seq.{sets}
 use borrow.Author.Needs.{needs}
 use Rattle.exact.specs.Filling.{over, runs}
 use Rattle.exact.proofs.FillingLaws.{over-none, over-more}
+use Rattle.net.specs.Net.{stride, grid}
+use Rattle.net.proofs.Grids.{row-length}
 use Rattle.subdivision.specs.Refinement.{refinedSide}
-use Rattle.steps.specs.RefinedNet.{refinedFields, rowRun, stored, refinedNet}
-use Rattle.steps.proofs.StoredNets.{row-length}
+use Rattle.steps.specs.RefinedNet.{refinedFields, vertexRun, rowRun, stored, refinedNet}
 use Rattle.steps.proofs.steps.refine_once.Statement.{statement}
 use Rattle.steps.proofs.steps.refine_once.Tie as tie
 
@@ -46,22 +47,22 @@ loop-again c =
     let j = c .before .before .before .before .loop .j in
     let wide = refinedSide (s .args .w) in
     let F = refinedFields (s .args .net .now) (s .args .w) in
-    let place : 9 * (j * wide) ≡ j * (wide * 9) = omega (arith, mul-assoc j wide 9) in
-    let below : (j + 1) * (wide * 9) ≤ refinedSide (s .args .h) * (wide * 9) = mul-le-mul (omega arith) (le-refl (wide * 9)) in
-    let fits : (j + 1) * (wide * 9) ≤ length (s .args .out .now) =
-    omega (arith, below, s .pre .2, mul-assoc (refinedSide (s .args .h)) wide 9, mul-comm (refinedSide (s .args .h)) wide) in (
+    let place : stride * (j * wide) ≡ j * (wide * stride) = omega (arith, mul-assoc j wide stride) in
+    let below : (j + 1) * (wide * stride) ≤ refinedSide (s .args .h) * (wide * stride) = mul-le-mul (omega arith) (le-refl (wide * stride)) in
+    let fits : (j + 1) * (wide * stride) ≤ length (s .args .out .now) =
+    omega (arith, below, s .pre .2, mul-assoc (refinedSide (s .args .h)) wide stride, mul-comm (refinedSide (s .args .h)) wide) in (
       search needs,
       search needs,
       c .before .refine-row .ensures
           ∙ (λ t. sets (c .before .before .before .before .loop .inv .2 t) (place t) (rowRun F wide j))
-          ∙ over-more (s .args .out .now) j (wide * 9) (rowRun F wide) (λ m h. row-length F wide m) fits,
+          ∙ over-more (s .args .out .now) j (wide * stride) (rowRun F wide) (λ m h. row-length stride (vertexRun F) (λ v. refl) wide m) fits,
     )
 
 same-length : tie.Need-same-length Inv-loop μ-loop
 same-length c = search needs
 
 returns : tie.Need-returns Inv-loop μ-loop
-unfolding refinedNet stored
+unfolding refinedNet stored grid
 returns c =
     let s = c .before .before in
     let all : c .before .loop .j ≡ refinedSide (s .args .h) = omega arith in

@@ -8,7 +8,7 @@ use lib.Seq.{sets}
 use borrow.Author.Needs.{needs}
 use Rattle.exact.specs.Filling.{runs}
 use Rattle.exact.proofs.FillingLaws.{runs-none, runs-more}
-use Rattle.net.specs.Net.{vertexAt}
+use Rattle.net.specs.Net.{vertexAt, stride}
 use Rattle.net.proofs.Places.{vertex-ends}
 use Rattle.subdivision.specs.Refinement.{refinedSide}
 use Rattle.steps.specs.RefinedNet.{refinedFields, vertexRun}
@@ -30,8 +30,8 @@ few c =
 -- the vertex of a turn lies in the output, and its place is a small number
 ends : (c : tie.In-loop Inv-loop μ-loop) →
     (let s = c .before .before in
-    let end = 9 * (s .args .j * (2 * s .args .w - 1)) + 9 * c .before .loop .i + 9 in
-    (end ≤ length (s .args .out .now)) × (end ≤ 9466200))
+    let end = stride * (s .args .j * (2 * s .args .w - 1)) + stride * c .before .loop .i + stride in
+    (end ≤ length (s .args .out .now)) × (end ≤ stride * 1051800))
 ends c =
     let s = c .before .before in
     let stored = vertex-ends {w = 2 * s .args .w - 1} {h = 2 * s .args .h - 1} {i = c .before .loop .i} {j = s .args .j} (omega arith) (omega (arith, s .pre .1)) in
@@ -80,13 +80,13 @@ loop-again c =
     let net = s .args .net .now in
     let i = c .before .before .before .before .before .loop .i in
     let v = vertexAt i (s .args .j) in
-    let at = 9 * (s .args .j * (2 * s .args .w - 1)) in (
+    let at = stride * (s .args .j * (2 * s .args .w - 1)) in (
       search needs,
       search needs,
       c .before .store-triangle .ensures
-          ∙ stored-controls net (s .args .w) v (c .before .before .before .before .before .loop .out) (at + 9 * i) (c .before .before .before .refined-vertex .ensures)
-          ∙ (λ t. sets (c .before .before .before .before .before .loop .inv .2 t) (at + mul-comm 9 i t) (vertexRun (refinedFields net (s .args .w)) v))
-          ∙ runs-more (s .args .out .now) at i 9 (λ m. vertexRun (refinedFields net (s .args .w)) (vertexAt m (s .args .j))) (λ m h. refl),
+          ∙ stored-controls net (s .args .w) v (c .before .before .before .before .before .loop .out) (at + stride * i) (c .before .before .before .refined-vertex .ensures)
+          ∙ (λ t. sets (c .before .before .before .before .before .loop .inv .2 t) (at + mul-comm stride i t) (vertexRun (refinedFields net (s .args .w)) v))
+          ∙ runs-more (s .args .out .now) at i stride (λ m. vertexRun (refinedFields net (s .args .w)) (vertexAt m (s .args .j))) (λ m h. refl),
     )
 
 same-length : tie.Need-same-length Inv-loop μ-loop
@@ -97,7 +97,7 @@ returns c =
     let s = c .before .before in
     let all : c .before .loop .i ≡ refinedSide (s .args .w) = omega arith in
     c .before .loop .inv .2
-    ∙ ap (λ (n : ℕ). sets (s .args .out .now) (9 * (s .args .j * refinedSide (s .args .w))) (runs n (λ m. vertexRun (refinedFields (s .args .net .now) (s .args .w)) (vertexAt m (s .args .j))))) all
+    ∙ ap (λ (n : ℕ). sets (s .args .out .now) (stride * (s .args .j * refinedSide (s .args .w))) (runs n (λ m. vertexRun (refinedFields (s .args .net .now) (s .args .w)) (vertexAt m (s .args .j))))) all
 
 pub refine-row-spec : {M : Type 1} → statement M
 refine-row-spec =

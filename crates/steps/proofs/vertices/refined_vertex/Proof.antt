@@ -7,13 +7,13 @@ use lib.Dec.{lit<}
 use lib.ListN.{length}
 use borrow.Author.Needs.{needs}
 use borrow.Author.Tests.{lt-ltb, le-ltb}
-use Rattle.net.specs.Net.{vertexAt, start}
+use Rattle.net.specs.Net.{vertexAt, start, stride}
 use Rattle.steps.proofs.RefinedVertices.{ends-before, by-kind, kept-alone}
 use Rattle.steps.proofs.vertices.refined_vertex.Statement.{statement}
 use Rattle.steps.proofs.vertices.refined_vertex.Tie as tie
 
 -- a vertex that the code reads ends within the net
-ends : (c : tie.Start) (m n : ℕ) → m ≤ (c .args .i + 1) / 2 → n ≤ (c .args .j + 1) / 2 → start (c .args .w) (vertexAt m n) + 9 ≤ length (c .args .net .now)
+ends : (c : tie.Start) (m n : ℕ) → m ≤ (c .args .i + 1) / 2 → n ≤ (c .args .j + 1) / 2 → start (c .args .w) (vertexAt m n) + stride ≤ length (c .args .net .now)
 ends c m n a b = ends-before (c .args .net .now) (c .args .w) ((c .args .i + 1) / 2) ((c .args .j + 1) / 2) m n a b (c .pre)
 
 mul-if1 : tie.Need-mul-if1

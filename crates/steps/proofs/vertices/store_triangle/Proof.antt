@@ -1,10 +1,11 @@
 -- `steps::vertices::store_triangle` meets its contract.
 use mathlib.Core.Path.{_∙_}
 use mathlib.Core.List.{[]}
-use Prim.Native.Nat.{_+_}
+use Prim.Native.Nat.{_+_, _*_}
 use lib.ListN.{getD}
 use lib.Seq.{sets}
 use borrow.Author.Needs.{needs}
+use Rattle.net.specs.Net.{pointStride}
 use Rattle.steps.proofs.vertices.store_triangle.Statement.{statement}
 use Rattle.steps.proofs.vertices.store_triangle.Tie as tie
 
@@ -26,6 +27,9 @@ store-point-requires-2 c κs = search needs
 array-copy-out-store-point-3 : tie.Need-array-copy-out-store-point-3
 array-copy-out-store-point-3 c = search needs
 
+mul-store-point : tie.Need-mul-store-point
+mul-store-point c = search needs
+
 add-store-point-2 : tie.Need-add-store-point-2
 add-store-point-2 c = search needs
 
@@ -41,7 +45,7 @@ returns c =
     let at = s .args .at in
     c .before .store-point3 .ensures
     ∙ (λ t. sets ((c .before .before .before .before .before .store-point2 .ensures
-    ∙ (λ u. sets (c .before .before .before .before .before .before .before .before .before .store-point .ensures u) (at + 3) (getD (s .args .t1) 1 []))) t) (at + 6) (getD (s .args .t1) 2 []))
+    ∙ (λ u. sets (c .before .before .before .before .before .before .before .before .before .store-point .ensures u) (at + pointStride) (getD (s .args .t1) 1 []))) t) (at + 2 * pointStride) (getD (s .args .t1) 2 []))
 
 pub store-triangle-spec : {M : Type 1} → statement M
 store-triangle-spec =
@@ -53,6 +57,7 @@ store-triangle-spec =
     add-store-point
     store-point-requires-2
     array-copy-out-store-point-3
+    mul-store-point
     add-store-point-2
     store-point-requires-3
     same-length

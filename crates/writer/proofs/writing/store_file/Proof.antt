@@ -7,8 +7,9 @@ use lib.ListN.{length}
 use lib.Seq.{sets, length-sets}
 use borrow.Author.Needs.{needs}
 use Rattle.exact.specs.Filling.{runs}
+use Rattle.net.specs.Net.{pointStride}
 use Rattle.net.proofs.Places.{good-size, GoodSize}
-use Rattle.words.specs.NetFile.{word, wordBytes, endKind, widthKind, heightKind, points, pointBytes}
+use Rattle.words.specs.NetFile.{word, wordBytes, endKind, widthKind, heightKind, points, pointBytes, headSize, pointSize}
 use Rattle.writer.proofs.WriteLaws.{file-stored}
 use Rattle.writer.proofs.writing.store_file.Statement.{statement}
 use Rattle.writer.proofs.writing.store_file.Tie as tie
@@ -60,11 +61,11 @@ returns c =
     let first = second .before .before .before .before in
     let s = first .before .before .before in
     let n = points (s .args .w) (s .args .h) in
-    let points = runs n (λ i. pointBytes (s .args .net .now) (3 * i)) in
+    let points = runs n (λ i. pointBytes (s .args .net .now) (pointStride * i)) in
     let sides = second .store-word2 .ensures ∙ (λ t. sets (first .store-word .ensures t) 4 (wordBytes (word heightKind (s .args .h)))) in
-    let stored = body .store-points .ensures ∙ (λ t. sets (sides t) 8 points) in
+    let stored = body .store-points .ensures ∙ (λ t. sets (sides t) headSize points) in
     third .store-word3 .ensures
-    ∙ (λ t. sets (stored t) (8 + 12 * n) (wordBytes (word endKind 0)))
+    ∙ (λ t. sets (stored t) (headSize + pointSize * n) (wordBytes (word endKind 0)))
     ∙ file-stored (s .args .net .now) (s .args .w) (s .args .h) (s .args .out .now) (s .pre .2)
 
 pub store-file-spec : {M : Type 1} → statement M

@@ -13,7 +13,7 @@ use borrow.Author.Needs.{needs}
 use Rattle.exact.proofs.SignedCode.{reads-back}
 use Rattle.net.specs.Net.{number}
 use Rattle.net.proofs.Ranges.{in-range}
-use Rattle.words.specs.NetFile.{word, complement, xKind, yKind, zKind, numberBytes, pointBytes}
+use Rattle.words.specs.NetFile.{word, complement, xKind, yKind, zKind, numberBytes, pointBytes, pointSize}
 use Rattle.writer.proofs.WriteLaws.{words-stored}
 use Rattle.writer.proofs.writing.store_numbers.Statement.{statement}
 use Rattle.writer.proofs.writing.store_numbers.Tie as tie
@@ -56,7 +56,7 @@ module _ (c : tie.After-z) where
       subst (λ (v : ℤ). natAbs v ≤ 16777216) (sym e)
       (in-range net (c .before .before .before .before .pre .2) i (omega (arith, h, c .before .before .before .before .pre .0)))
 
-  room : at + 12 ≤ length out
+  room : at + pointSize ≤ length out
   room = c .before .before .before .before .pre .1
 
 -- what stands after the first word, and after the second

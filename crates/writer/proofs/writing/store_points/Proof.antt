@@ -8,12 +8,13 @@ use lib.Seq.{sets}
 use borrow.Author.Needs.{needs}
 use Rattle.exact.specs.Filling.{runs}
 use Rattle.exact.proofs.FillingLaws.{runs-none, runs-more}
-use Rattle.words.specs.NetFile.{wordBytes, pointBytes}
+use Rattle.net.specs.Net.{pointStride}
+use Rattle.words.specs.NetFile.{wordBytes, pointBytes, headSize, pointSize}
 use Rattle.writer.proofs.writing.store_points.Statement.{statement}
 use Rattle.writer.proofs.writing.store_points.Tie as tie
 
 abbrev Inv-loop : tie.InvT-loop
-Inv-loop net n out₀ i₀ out i = (i ≤ n) × (length out ≡ length out₀) × (out ≡ sets out₀ 8 (runs i (λ j. pointBytes net (3 * j))))
+Inv-loop net n out₀ i₀ out i = (i ≤ n) × (length out ≡ length out₀) × (out ≡ sets out₀ headSize (runs i (λ j. pointBytes net (pointStride * j))))
 
 abbrev μ-loop : tie.MeasureT-loop
 μ-loop net n out₀ i₀ out i = n - i
@@ -51,8 +52,8 @@ loop-again c =
       search needs,
       search needs,
       c .before .before .store-numbers .ensures
-          ∙ (λ t. sets (inv .2 t) (8 + mul-comm 12 i t) (pointBytes net (3 * i)))
-          ∙ runs-more (start .args .out .now) 8 i 12 (λ j. pointBytes net (3 * j)) (λ j h. refl),
+          ∙ (λ t. sets (inv .2 t) (headSize + mul-comm pointSize i t) (pointBytes net (pointStride * i)))
+          ∙ runs-more (start .args .out .now) 8 i pointSize (λ j. pointBytes net (pointStride * j)) (λ j h. refl),
     )
 
 same-length : tie.Need-same-length Inv-loop μ-loop
@@ -62,7 +63,7 @@ returns : tie.Need-returns Inv-loop μ-loop
 returns c =
     let start = c .before .before .before in
     let all : c .before .loop .i ≡ start .args .n = omega arith in
-    c .before .loop .inv .2 ∙ ap (λ (n : ℕ). sets (start .args .out .now) 8 (runs n (λ j. pointBytes (start .args .net .now) (3 * j)))) all
+    c .before .loop .inv .2 ∙ ap (λ (n : ℕ). sets (start .args .out .now) headSize (runs n (λ j. pointBytes (start .args .net .now) (pointStride * j)))) all
 
 pub store-points-spec : {M : Type 1} → statement M
 store-points-spec =

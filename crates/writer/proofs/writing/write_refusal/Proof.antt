@@ -3,13 +3,12 @@ use mathlib.Core.Path.{_≡_, refl, sym, _∙_}
 use mathlib.Core.Bool.{Bool, false, cond, _||_}
 use Prim.Native.Nat.{ℕ, _*_, _≤_}
 use native.Mathlib.Omega.{arith}
-use lib.ListN.{take}
 use borrow.Author.Needs.{needs}
 use borrow.Author.Tests.{lt-ltb, le-ltb, ltb-false}
-use Rattle.net.specs.TurnedAway.{badSize, shortNet, anyBeyond}
-use Rattle.net.specs.Net.{numbers}
+use Rattle.net.specs.TurnedAway.{badSize, shortNet, netBeyond}
 use Rattle.net.proofs.Places.{good-size, few-vertices}
 use Rattle.net.proofs.Faults.{cond-true, cond-false, or-no, or-yes}
+use Rattle.words.specs.NetFile.{fileSize}
 use Rattle.writer.specs.TurnedAway.{noRoom, writeRefusal}
 use Rattle.writer.proofs.writing.write_refusal.Statement.{statement}
 use Rattle.writer.proofs.writing.write_refusal.Tie as tie
@@ -35,17 +34,19 @@ module _ (c : tie.Else2) where
   short = start .args .short || noRoom (start .args .w) (start .args .h) (start .args .room)
 
   -- past 1 and 2
-  past : {n : ℕ} → n ≡ cond short 5 (cond (anyBeyond (take (numbers (start .args .w) (start .args .h)) (start .args .net .now))) 3 0) →
+  past : {n : ℕ} → n ≡ cond short 5 (cond (netBeyond (start .args .net .now) (start .args .w) (start .args .h)) 3 0) →
       n ≡ writeRefusal (start .args .net .now) (start .args .w) (start .args .h) short
   past e = cond-false _ 1 _ (size at) (cond-false _ 2 _ long e)
 
 -- 5 does not refuse
 module _ (c : tie.After-net-beyond) where
   abbrev e : tie.Else2
-  e = c .before .before .before
+  e = c .before .before .before .before
 
   roomy : short e ≡ false
-  roomy = sym (or-no (start e .args .short) _ (c .before .before .if3 .left) (sym (le-ltb _ _ (c .before .if4 .left))))
+  roomy =
+      let size = c .before .before .file-size .ensures in
+      sym (or-no (start e .args .short) _ (c .before .before .before .if3 .left) (sym (le-ltb (start e .args .room) (fileSize (start e .args .w) (start e .args .h)) (omega (arith, c .before .if4 .left, size)))))
 
 bad-size-requires : tie.Need-bad-size-requires
 bad-size-requires c κs = search needs
@@ -62,25 +63,18 @@ returns-2 c = cond-false _ 1 _ (size (c .before .before)) (cond-true _ 2 _ (sym 
 returns-3 : tie.Need-returns-3
 returns-3 c = past (c .before) (cond-true _ 5 _ (sym (or-yes (c .before .before .before .before .before .args .short) _ (c .if3 .taken))))
 
-mul-vertices : tie.Need-mul-vertices
-mul-vertices c = omega (arith, few (c .before .before .before))
-
-mul-if4 : tie.Need-mul-if4
-mul-if4 c = omega (arith, few (c .before .before .before))
-
-add-if4 : tie.Need-add-if4
-add-if4 c = omega (arith, few (c .before .before .before))
-
-mul-if4-2 : tie.Need-mul-if4-2
-mul-if4-2 c = omega (arith, few (c .before .before .before))
+file-size-requires : tie.Need-file-size-requires
+file-size-requires c κs = size (c .before .before .before)
 
 returns-4 : tie.Need-returns-4
 returns-4 c =
-    past (c .before .before)
-    (cond-true _ 5 _ (sym (or-no (c .before .before .before .before .before .before .args .short) _ (c .before .if3 .left) (sym (lt-ltb _ _ (c .if4 .taken))))))
+    let e = c .before .before .before in
+    let size = c .before .file-size .ensures in
+    let little = lt-ltb (start e .args .room) (fileSize (start e .args .w) (start e .args .h)) (omega (arith, c .if4 .taken, size)) in
+    past e (cond-true _ 5 _ (sym (or-no (start e .args .short) _ (c .before .before .if3 .left) (sym little))))
 
 net-beyond-requires : tie.Need-net-beyond-requires
-net-beyond-requires c κs = ltb-false _ _ (long (c .before .before))
+net-beyond-requires c κs = (size (at (c .before .before .before)), ltb-false _ _ (long (c .before .before .before)))
 
 returns-5 : tie.Need-returns-5
 returns-5 c =
@@ -99,10 +93,7 @@ write-refusal-spec =
     short-net-requires
     returns-2
     returns-3
-    mul-vertices
-    mul-if4
-    add-if4
-    mul-if4-2
+    file-size-requires
     returns-4
     net-beyond-requires
     returns-5

@@ -1,5 +1,5 @@
 -- `writer::writing::write_with` meets its contract.
-use mathlib.Core.Path.{_≡_, refl, sym, ap, _∙_}
+use mathlib.Core.Path.{_≡_, sym, ap, _∙_}
 use mathlib.Core.Bool.{Bool, _||_}
 use mathlib.Core.List.{List, [], _∷_}
 use Prim.Native.Nat.{ℕ, _-_, _*_, _≤_}
@@ -8,7 +8,7 @@ use lib.ListN.{length, take, length-take}
 use lib.IntN.{ℤ}
 use borrow.Author.Needs.{needs}
 use Rattle.exact.specs.Filling.{over}
-use Rattle.net.specs.Net.{numbers}
+use Rattle.net.specs.Net.{numbers, stride}
 use Rattle.net.specs.TurnedAway.{anyBeyond}
 use Rattle.net.proofs.Places.{good-size, few-vertices}
 use Rattle.net.proofs.Faults.{accepted-answer, refused-answer, when-accepted, when-refused}
@@ -46,9 +46,9 @@ module _ (c : tie.Then1) where
   few = few-vertices (good-size w h (good .size))
 
   -- the part that is lent
-  part : take (9 * (w * h) - 0) net ≡ cut net w h
+  part : take (stride * (w * h) - 0) net ≡ cut net w h
   part =
-      let same : 9 * (w * h) - 0 ≡ 9 * (w * h) = omega arith in
+      let same : stride * (w * h) - 0 ≡ stride * (w * h) = omega arith in
       ap (λ (n : ℕ). take n net) same
 
 write-refusal-requires : tie.Need-write-refusal-requires
@@ -79,20 +79,17 @@ store-file-requires c κs =
       ap anyBeyond (part k) ∙ g .range,
     )
 
-add-count : tie.Need-add-count
-add-count c = omega (arith, few (c .before .before .before .before .before))
-
-mul-count : tie.Need-mul-count
-mul-count c = omega (arith, few (c .before .before .before .before .before))
+file-size-requires : tie.Need-file-size-requires
+file-size-requires c κs = good (c .before .before .before .before .before) .size
 
 same-length : tie.Need-same-length
 same-length c = search needs
 
 returns : tie.Need-returns
 returns c =
-    let k = c .before .before .before .before .before in (
-      accepted-answer (writeRefusal (net k) (w k) (h k) (short k)) (fileSize (w k) (h k) ∷ []) (none k) refl,
-      c .before .before .store-file .ensures
+    let k = c .before .before .before .before .before .before in (
+      accepted-answer (writeRefusal (net k) (w k) (h k) (short k)) (fileSize (w k) (h k) ∷ []) (none k) (ap (λ (n : ℕ). n ∷ []) (c .file-size .ensures)),
+      c .before .before .before .store-file .ensures
           ∙ ap (λ (l : List ℕ). over l (out k)) (ap (λ (l : List ℤ). netFile l (w k) (h k)) (part k) ∙ cut-file (net k) (w k) (h k))
           ∙ when-accepted (writeRefusal (net k) (w k) (h k) (short k)) (over (netFile (net k) (w k) (h k)) (out k)) (out k) (none k),
     )
@@ -117,8 +114,7 @@ write-with-spec =
     part-store-file-start
     part-store-file-end
     store-file-requires
-    add-count
-    mul-count
+    file-size-requires
     same-length
     returns
     returns-2)
