@@ -1,4 +1,5 @@
--- The 19 Bézier points are weighted sums of the control values in corner form, with weights that add up to 36, so each fits an i32.
+-- The 19 Bézier points are weighted sums of the control values in corner form, with weights that add up to 36, so each
+-- fits an i32.
 use mathlib.Core.Path.{_≡_, refl, sym, subst, _∙_}
 use mathlib.Core.Bool.{Bool, true, false}
 use mathlib.Core.List.{List, [], _∷_, map}

@@ -25,7 +25,8 @@ bezierRefusal net w h i j down room =
     ∷ (triangleBeyond net w (triangleAt i j down), 3)
     ∷ [])
 
--- worked cases: a missing triangle, and a number beyond the range at a vertex of the down triangle, with and without room
+-- worked cases: a missing triangle, and a number beyond the range at a vertex of the down triangle, with and without
+-- room
 abbrev noughts : List ℤ
 noughts = replicate (numbers 2 2) (pos 0)
 

@@ -4,7 +4,8 @@ use Prim.Native.Nat.{ℕ}
 use lib.ListN.{getD}
 use lib.IntN.{ℤ, pos}
 
--- the weights over 36 of the 19 points, in document 01's order: those of ck, cn, cm at corner 1, at corner 2 and at corner 3
+-- the weights over 36 of the 19 points, in document 01's order: those of ck, cn, cm at corner 1, at corner 2 and at
+-- corner 3
 abbrev pub bezierRows : List (List ℤ)
 bezierRows =
     (pos 12 ∷ pos 12 ∷ pos 12 ∷ pos 0 ∷ pos 0 ∷ pos 0 ∷ pos 0 ∷ pos 0 ∷ pos 0 ∷ [])

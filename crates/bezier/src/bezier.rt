@@ -20,8 +20,8 @@ ghost use Rattle.bezier.specs.TurnedAway.{noTriangle, bezierRefusal};
 ghost use Rattle.bezier.specs.Answers.{answerTold, bezierAnswer, bezierOutput};
 ghost use Rattle.bezier.specs.Weights.{bezierRows, threeAt};
 
-// The 19 points times 36, in document 01's order and in one coordinate, of the values of ck, cn, cm at each corner. The weights of a point sum to
-// 36, so it fits for values of the net range.
+// The 19 points times 36, in document 01's order and in one coordinate, of the values of ck, cn, cm at each corner. The
+// weights of a point sum to 36, so it fits for values of the net range.
 fn ordinates(values: [i32; 9]) -> [i32; 19]
     requires { ⌜ Within 16777216 values ⌝ }
     ensures { λ r. ⌜ r ≡ map (λ row. weightedSum row values) bezierRows ⌝ }

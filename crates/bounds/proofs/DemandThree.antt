@@ -1,4 +1,5 @@
--- Demand 3 of the definitions: the laws of distance and range, at edge count 1,024, for our table and the fields of a net that is taken.
+-- Demand 3 of the definitions: the laws of distance and range, at edge count 1,024, for our table and the fields of a
+-- net that is taken.
 use mathlib.Core.Path.{_≡_, refl, sym, subst}
 use mathlib.Core.Bool.{Bool, true, false, cond}
 use mathlib.Core.List.{List, [], _∷_}

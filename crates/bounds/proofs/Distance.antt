@@ -1,5 +1,5 @@
--- How far rounding takes a refined net: each control value from the exact net of the same table, the exact spline from the starting net's, and the rounded
--- point. Distances are doubled, so that a half is whole.
+-- How far rounding takes a refined net: each control value from the exact net of the same table, the exact spline from
+-- the starting net's, and the rounded point. Distances are doubled, so that a half is whole.
 use mathlib.Core.Path.{_≡_, refl, sym, ap, subst, _∙_}
 use mathlib.Core.Bool.{true}
 use mathlib.Core.List.{List, [], _∷_, map, Forall₂, Forall₂·nil, Forall₂·cons}
@@ -26,7 +26,7 @@ use Rattle.spline.proofs.Located.{located}
 use Rattle.spline.proofs.AnyTriangle.{chosen-value}
 use Rattle.subdivision.specs.Refinement.{kindOf, beginOf, endOf, steps, refinements, exactRefinements, sideAfter}
 use Rattle.subdivision.specs.WeightTable.{Table, kindNumber, weightsAt, passes, six, exactBy, refinedBy, weights, weights-pass}
-use Rattle.subdivision.proofs.Tables.{kind-below, row-total, row-not-negative, our-table, our-refinement}
+use Rattle.subdivision.proofs.Tables.{kind-below, step-nearest, row-total, row-not-negative, our-table, our-refinement}
 use Rattle.subdivision.proofs.SameSpline.{side-at-least, same-splines}
 use Rattle.bounds.specs.Promises.{NetDistance, SplineDistance, PointDistance}
 
@@ -43,10 +43,9 @@ near-sums {e} m n ws vs us h d =
 size-multiple : (m : ℕ) (z : ℤ) → natAbs (pos m *ℤ z) ≡ m * natAbs z
 size-multiple m z = size-product (pos m) z
 
--- a rounded quotient, times a factor: m·d times it is at most m·d/2 from m times n
-near-rounded : (m d : ℕ) (n : ℤ) → 0 < d → natAbs (pos (2 * (m * d)) *ℤ rounded n d -ℤ pos (2 * m) *ℤ n) ≤ m * d
-near-rounded m d n p =
-    let r = rounded n d in
+-- a whole number nearest to a quotient, times a factor: m·d times it is at most m·d/2 from m times n
+near-multiple : (m d : ℕ) (n r : ℤ) → 2 * natAbs (pos d *ℤ r -ℤ n) ≤ d → natAbs (pos (2 * (m * d)) *ℤ r -ℤ pos (2 * m) *ℤ n) ≤ m * d
+near-multiple m d n r p =
     let apart : pos (2 * (m * d)) *ℤ r -ℤ pos (2 * m) *ℤ n ≡ pos m *ℤ (pos 2 *ℤ (pos d *ℤ r -ℤ n)) = identity
     (lit (pos 2) ⊗ (var 0 ⊗ var 1) ⊗ var 3 ⊖ lit (pos 2) ⊗ var 0 ⊗ var 2)
     (var 0 ⊗ (lit (pos 2) ⊗ (var 1 ⊗ var 3 ⊖ var 2)))
@@ -56,7 +55,7 @@ near-rounded m d n p =
       ap natAbs apart,
       size-multiple m (pos 2 *ℤ (pos d *ℤ r -ℤ n)),
       ap (λ (x : ℕ). m * x) (size-multiple 2 (pos d *ℤ r -ℤ n)),
-      mul-le-mul (le-refl m) (nearest n d p),
+      mul-le-mul (le-refl m) p,
     )
 
 -- a distance whose two sides are doubled
@@ -79,7 +78,7 @@ module _ (T : Table) (e : passes T ≡ true) (F : Field) where
 
   -- 12^k times the net is within (k/2)·12^k of the exact one, which is 12^k times the exact net
   near-net : (k : ℕ) (v : Vertex) (l : Index) → Near (k * 12 ^ k) (pos (2 * 12 ^ k) *ℤ net k v l) (pos 2 *ℤ exactNet k v l)
-  unfolding refinedBy exactBy
+  unfolding exactBy
   near-net zero v l =
       let x = pos 2 *ℤ F v l in
       let none : x -ℤ x ≡ pos 0 = identity (var 0 ⊖ var 0) (lit (pos 0)) (x ∷ []) refl in
@@ -93,7 +92,7 @@ module _ (T : Table) (e : passes T ≡ true) (F : Field) where
       let B = endOf v in
       let x = weightedSum ws (six (net k A) (net k B)) in
       let y = weightedSum ws (six (exactNet k A) (exactNet k B)) in
-      let r = rounded x 12 in
+      let r = refinedBy T (net k) v l in
       let h = near-net k in
       let sums : natAbs (pos (2 * m) *ℤ x -ℤ pos 2 *ℤ y) ≤ k * m * natAbs (total ws) =
       near-sums {e = k * m} (2 * m) 2 ws (six (net k A) (net k B)) (six (exactNet k A) (exactNet k B)) (row-not-negative T e n below l)
@@ -104,7 +103,7 @@ module _ (T : Table) (e : passes T ≡ true) (F : Field) where
       omega (
         arith,
         distance-triangle (pos (2 * (m * 12)) *ℤ r) (pos (2 * m) *ℤ x) (pos 2 *ℤ y),
-        near-rounded m 12 x (lit< tt),
+        near-multiple m 12 x r (step-nearest T (net k) v l),
         sums,
         twelve,
       ) in
@@ -216,7 +215,7 @@ point-distance k F w h D p q d a b g =
     omega (
       arith,
       distance-triangle (pos (2 * c) *ℤ r) (pos (2 * 4 ^ k) *ℤ x) (pos 2 *ℤ y),
-      near-rounded (4 ^ k) (36 * (D * D)) x some,
+      near-multiple (4 ^ k) (36 * (D * D)) x r (nearest x (36 * (D * D)) some),
       near-spline k F w h D p q d a b g,
     ) in
     subst (λ (n : ℕ). 2 * natAbs (pos n *ℤ r -ℤ y) ≤ (k + 1) * n) (same-factor k F w h D p q d a b g) (halved c ((k + 1) * c) r y both)

@@ -1,5 +1,5 @@
--- Where refined values and points lie, for every table that passes the test: a refined value at a vertex of a closed triangle is a mean of the values of that
--- triangle's own corners, and so everything stays between them at every depth.
+-- Where refined values and points lie, for every table that passes the test: a refined value at a vertex of a closed
+-- triangle is a mean of the values of that triangle's own corners, and so everything stays between them at every depth.
 use mathlib.Core.Path.{_≡_, refl, sym, ap, subst}
 use mathlib.Core.Bool.{Bool, true, false}
 use Prim.Native.Nat.{ℕ, zero, suc, _+_, _*_, _^_, _≤_, _<_}
@@ -117,8 +117,8 @@ corner-at u v t s l = go (t .down) (l .across) (l .up) (decLe 1 (s one)) (decLe 
     go true a b (no g) (yes h) = here true two (omega (arith, a, l .whole, h)) (omega (arith, b, l .whole, h))
     go true a b (no g) (no h) = here true three (omega (arith, a, l .whole, g, h)) (omega (arith, b, l .whole, g, h))
 
--- vertex (u, v) of the refined net is place (u, v) at edge count 2: where it lies in a closed triangle, its values are means of that triangle's own
--- corners' values
+-- vertex (u, v) of the refined net is place (u, v) at edge count 2: where it lies in a closed triangle, its values are
+-- means of that triangle's own corners' values
 pub vertex-mean : VertexMean
 vertex-mean T e F u v t lies l =
     let c = in-child 1 u v t (sharesIn 2 u v t) (located 2 u v t lies) in

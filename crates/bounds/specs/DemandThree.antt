@@ -1,5 +1,5 @@
--- Demand 3, of the definitions: how far the points computed from a refined net are from the exact spline of the starting net, and between which control
--- values they lie. `demand-three` in proofs/DemandThree.antt proves it.
+-- Demand 3, of the definitions: how far the points computed from a refined net are from the exact spline of the
+-- starting net, and between which control values they lie. `demand-three` in proofs/DemandThree.antt proves it.
 use mathlib.Core.Path.{_≡_, refl}
 use mathlib.Core.Bool.{cond}
 use mathlib.Core.List.{List, [], _∷_}
@@ -33,7 +33,8 @@ WithinControls F t z = (least (controlList (controlsOf F t)) ≤ℤ z) × (z ≤
 abbrev pub refinedCoordinate : Field → ℕ → ℕ → ℕ → ℕ → ℕ → ℤ
 refinedCoordinate F w h k p q = rounded (spline (refinements k F) (sideAfter k w) (sideAfter k h) 1024 p q) 37748736
 
--- 'edge count 1024 times 2 to the power k', at which place (p, q) of the refined net is place (p, q) of the starting net
+-- 'edge count 1024 times 2 to the power k', at which place (p, q) of the refined net is place (p, q) of the starting
+-- net
 abbrev pub fineEdge : ℕ → ℕ
 fineEdge k = 1024 * 2 ^ k
 

@@ -1,5 +1,5 @@
--- How far rounding takes a refined net, and between which values it stays, of the definitions: the statements, each with the name of its proof. The half
--- in a distance is cleared by 2.
+-- How far rounding takes a refined net, and between which values it stays, of the definitions: the statements, each
+-- with the name of its proof. The half in a distance is cleared by 2.
 use mathlib.Core.Path.{_≡_}
 use mathlib.Core.Bool.{true, false}
 use mathlib.Core.List.{List}
@@ -19,15 +19,15 @@ use Rattle.subdivision.specs.WeightTable.{Table, kindNumber, weightsAt, passes,
 
 -- ---- distance
 
--- for every table that passes the test, each control value after k rounded steps is within k/2 of the exact net made by that table, which is whole times 12^k
--- (`net-distance`)
+-- for every table that passes the test, each control value after k rounded steps is within k/2 of the exact net made by
+-- that table, which is whole times 12^k (`net-distance`)
 abbrev pub NetDistance : Type 0
 NetDistance =
     (T : Table) → passes T ≡ true → (F : Field) (k : ℕ) (v : Vertex) (l : Index) →
     2 * natAbs (pos (12 ^ k) *ℤ steps (refinedBy T) k F v l -ℤ steps (exactBy T) k F v l) ≤ k * 12 ^ k
 
--- the exact spline of the net after k steps is within k/2 of the starting net's (`spline-distance`). The first is whole times 36·D², the second times
--- 36·(2^k·D)², which is 4^k times as much.
+-- the exact spline of the net after k steps is within k/2 of the starting net's (`spline-distance`). The first is whole
+-- times 36·D², the second times 36·(2^k·D)², which is 4^k times as much.
 abbrev pub SplineDistance : Type 0
 SplineDistance =
     (k : ℕ) (F : Field) (w h D p q : ℕ) → 0 < D → 2 ≤ w → 2 ≤ h → OnGrid D (sideAfter k w) (sideAfter k h) p q →
@@ -54,15 +54,17 @@ CornersBetween m n F t = (P l : Index) → Between m n (F (corner t P) l)
 abbrev pub NetBetween : ℤ → ℤ → ℕ → ℕ → Field → Type 0
 NetBetween m n w h F = (i j : ℕ) → i < w → j < h → (l : Index) → Between m n (F (vertexAt i j) l)
 
--- control l of a refined vertex v, times 12, is a weighted sum of the values of two corners of t (or of one, twice), by a row of the table
+-- control l of a refined vertex v, times 12, is a weighted sum of the values of two corners of t (or of one, twice), by
+-- a row of the table
 pub record MeanOfCorners (T : Table) (F : Field) (t : Triangle) (v : Vertex) (l : Index) : Type 0 where
   pub kind : Kind
   pub A : Index
   pub B : Index
   pub mean : exactBy T F v l ≡ weightedSum (weightsAt T (kindNumber kind) l) (six (F (corner t A)) (F (corner t B)))
 
--- for every table that passes the test, in every closed triangle that a refined vertex lies in: vertex (u, v) of the refined net is place (u, v) at edge count 2
--- (`vertex-mean`); so its rounded values lie between the triangle's (`vertex-between`)
+-- for every table that passes the test, in every closed triangle that a refined vertex lies in: vertex (u, v) of the
+-- refined net is place (u, v) at edge count 2 (`vertex-mean`); so its rounded values lie between the triangle's
+-- (`vertex-between`)
 abbrev pub VertexMean : Type 0
 VertexMean = (T : Table) → passes T ≡ true → (F : Field) (u v : ℕ) (t : Triangle) → LiesIn 2 u v t → (l : Index) → MeanOfCorners T F t (vertexAt u v) l
 
@@ -71,7 +73,8 @@ VertexBetween =
     (T : Table) → passes T ≡ true → (m n : ℤ) (F : Field) (u v : ℕ) (t : Triangle) → LiesIn 2 u v t → CornersBetween m n F t → (l : Index) →
     Between m n (refinedBy T F (vertexAt u v) l)
 
--- the rounded point after k steps lies between the control values of each starting triangle that the place lies in (`point-between`)
+-- the rounded point after k steps lies between the control values of each starting triangle that the place lies in
+-- (`point-between`)
 abbrev pub PointBetween : Type 0
 PointBetween =
     (T : Table) → passes T ≡ true → (m n : ℤ) (k : ℕ) (F : Field) (w h D p q : ℕ) (t : Triangle) →

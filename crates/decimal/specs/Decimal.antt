@@ -1,4 +1,5 @@
--- Document 01, "Door corner", the listing program: how a number is printed, as a list of bytes in ASCII. '0' is 48, '-' is 45.
+-- Document 01, "Door corner", the listing program: how a number is printed, as a list of bytes in ASCII. '0' is 48, '-'
+-- is 45.
 use mathlib.Core.Path.{_≡_, refl}
 use mathlib.Core.List.{List, [], _∷_, _++_}
 use Prim.Native.Nat.{ℕ, zero, suc, _+_, _/_, _%_}
@@ -8,8 +9,8 @@ use lib.IntN.{ℤ, pos, negsuc}
 abbrev pub digit : ℕ → ℕ
 digit d = 48 + d
 
--- the digits of a number above 0: those of n / 10, of which there are none where that is 0, and then n % 10. `turns` bounds how often this is done; n times is
--- always enough, and `decimal-steps` says the same without it.
+-- the digits of a number above 0: those of n / 10, of which there are none where that is 0, and then n % 10. `turns`
+-- bounds how often this is done; n times is always enough, and `decimal-steps` says the same without it.
 unfoldable pub digitsOf : ℕ → ℕ → List ℕ
 digitsOf zero n = []
 digitsOf (suc turns) zero = []

@@ -1,5 +1,5 @@
--- Document 01, "Door corner": the cases marked *, as a list of what the definitions give and what document 01 says, and one theorem for all.
--- A case is one line of the list.
+-- Document 01, "Door corner": the cases marked *, as a list of what the definitions give and what document 01 says, and
+-- one theorem for all. A case is one line of the list.
 use mathlib.Core.Path.{_≡_, refl}
 use mathlib.Core.Bool.{false}
 use mathlib.Core.List.{List, [], _∷_, _++_, map}
@@ -16,8 +16,8 @@ use Rattle.subdivision.specs.Refinement.{refinement, exactRefinement}
 use Rattle.steps.specs.RefinedNet.{stored, refinedNet}
 use Rattle.words.specs.NetFile.{zKind, numberBytes, wordBytes}
 
--- the nine numbers of vertex (i, j), where a = 1200i, b = 1200j and c1 has height z: 'x of c1, c2, c3 is 1200i + 600, 1200i - 600, 1200i;
--- y is 1200j, 1200j + 600, 1200j - 600; z is 0 but for c1 of (0, 0)'
+-- the nine numbers of vertex (i, j), where a = 1200i, b = 1200j and c1 has height z: 'x of c1, c2, c3 is 1200i + 600,
+-- 1200i - 600, 1200i; y is 1200j, 1200j + 600, 1200j - 600; z is 0 but for c1 of (0, 0)'
 abbrev doorVertex : ℤ → ℤ → ℤ → List ℤ
 doorVertex a b z =
     (a +ℤ pos 600) ∷ b ∷ z

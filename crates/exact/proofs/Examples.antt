@@ -1,4 +1,5 @@
--- Examples of use, one or two of each kind. Nothing cites this file: it shows how the laws are called, and that they do what they are for.
+-- Examples of use, one or two of each kind. Nothing cites this file: it shows how the laws are called, and that they do
+-- what they are for.
 use mathlib.Core.Path.{_≡_, refl}
 use mathlib.Core.Logic.{inl, inr}
 use mathlib.Core.List.{List, [], _∷_, Forall₂·nil, Forall₂·cons}
@@ -25,7 +26,8 @@ square-of-sum x y =
 difference-of-squares : (x y : ℤ) → x *ℤ x -ℤ y *ℤ y ≡ (x -ℤ y) *ℤ (x +ℤ y)
 difference-of-squares x y = identity (var 0 ⊗ var 0 ⊖ var 1 ⊗ var 1) ((var 0 ⊖ var 1) ⊗ (var 0 ⊕ var 1)) (x ∷ y ∷ []) refl
 
--- two of the identities by which exact refinement keeps the spline, in twelve variables: nine controls and the gaps x, y, g between ordered shares
+-- two of the identities by which exact refinement keeps the spline, in twelve variables: nine controls and the gaps x,
+-- y, g between ordered shares
 
 abbrev times : ℕ → Expr → Expr
 times n e = lit (pos n) ⊗ e
@@ -36,7 +38,8 @@ record Corner : Type 0 where
   third : Expr
   before : Expr
 
--- 36 times the exact value at the gaps x, y, g, for the largest share at P and the second at the next corner Q: A = x, B = 2y, G = 3g
+-- 36 times the exact value at the gaps x, y, g, for the largest share at P and the second at the next corner Q: A = x,
+-- B = 2y, G = 3g
 abbrev exact36 : Corner → Corner → Corner → Expr → Expr → Expr → Expr
 exact36 P Q T x y g =
     x ⊗ x ⊗ times 12 (P .next ⊕ P .third ⊕ P .before)
@@ -85,7 +88,8 @@ cornerCoarse = times 3 (exact36 P Q R (times 2 (var 9 ⊕ var 10) ⊕ times 3 (v
 corner-triangle : (ρ : List ℤ) → value ρ cornerFine ≡ value ρ cornerCoarse
 corner-triangle ρ = identity cornerFine cornerCoarse ρ refl
 
--- the fine triangle in the middle: the midpoints of P, Q, of R, P and of Q, R. It is of the other kind, so its corners' controls come in another order
+-- the fine triangle in the middle: the midpoints of P, Q, of R, P and of Q, R. It is of the other kind, so its corners'
+-- controls come in another order
 abbrev middlePQ : Corner
 middlePQ = record { next = midPQ .next; third = midPQ .before; before = midPQ .third }
 

@@ -1,6 +1,6 @@
--- Identities of integers by computation. An expression has a value in an environment, the list of what its variables stand for, and a normal form, a sorted
--- list of terms. Two expressions with the same normal form have the same value: `identity a b ρ refl` proves `value ρ a ≡ value ρ b`. `value` computes, so
--- that is the identity as it is written.
+-- Identities of integers by computation. An expression has a value in an environment, the list of what its variables
+-- stand for, and a normal form, a sorted list of terms. Two expressions with the same normal form have the same value:
+-- `identity a b ρ refl` proves `value ρ a ≡ value ρ b`. `value` computes, so that is the identity as it is written.
 use mathlib.Core.Path.{_≡_, refl, sym, _∙_, ap, subst}
 use mathlib.Core.List.{List, [], _∷_, map}
 use mathlib.Core.Bool.{Bool, true, false}
@@ -41,7 +41,7 @@ value ρ (var i) = getD ρ i (pos 0)
 value ρ (lit z) = z
 value ρ (op o a b) = apply o (value ρ a) (value ρ b)
 
--- ---- the normal form: terms, each a coefficient other than 0 and a sorted list of variables, in the order of those lists
+-- ---- the normal form: terms in order, each a coefficient other than 0 and a sorted list of variables
 
 pub data Terms : Type 0 where
   none : Terms

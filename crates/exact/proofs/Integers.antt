@@ -1,4 +1,5 @@
--- The laws of sums and products of integers that the kit's `lib.IntN` lacks. `Expressions` rests on these, and proves every other identity.
+-- The laws of sums and products of integers that the kit's `lib.IntN` lacks. `Expressions` rests on these, and proves
+-- every other identity.
 use mathlib.Core.Path.{_≡_, sym, _∙_, ap}
 use Prim.Native.Nat.{ℕ, _*_}
 use lib.IntN.{ℤ, pos, negℤ, _+ℤ_, _*ℤ_, +ℤ-assoc, +ℤ-comm, *ℤ-comm, *ℤ-one, one}

@@ -1,5 +1,6 @@
--- The parts of a whole expression, for `omega`. `expression-parts ρ e` in the list of `omega (integers, ..)` says what the value of e is through the parts of
--- its variables: one entry, where `Parts` takes one for each sum, difference and product.
+-- The parts of a whole expression, for `omega`. `expression-parts ρ e` in the list of `omega (integers, ..)` says what
+-- the value of e is through the parts of its variables: one entry, where `Parts` takes one for each sum, difference and
+-- product.
 use mathlib.Core.Path.{_≡_, ap}
 use mathlib.Core.List.{List}
 use mathlib.Core.Bool.{Bool, true, false, not}

@@ -1,7 +1,7 @@
--- The way from integers to `omega`, which reads naturals only. An integer is the difference of its positive and its negative part, two naturals.
--- `omega (integers, ..)` reads each hypothesis `a ≤ℤ b`, `a <ℤ b` or `a ≡ b` through the parts, and proves such a goal through them.
--- The list after it names the parts of each compound number that stands in one: `sum-parts a b` for `a +ℤ b`, and so on.
--- `Linear` has the parts of a whole expression in one entry.
+-- The way from integers to `omega`, which reads naturals only. An integer is the difference of its positive and its
+-- negative part, two naturals. `omega (integers, ..)` reads each hypothesis `a ≤ℤ b`, `a <ℤ b` or `a ≡ b` through the
+-- parts, and proves such a goal through them. The list after it names the parts of each compound number that stands in
+-- one: `sum-parts a b` for `a +ℤ b`, and so on. `Linear` has the parts of a whole expression in one entry.
 use mathlib.Core.Path.{_≡_, refl, ap}
 use mathlib.Core.Bool.{Bool, true, false, not, cond}
 use Prim.Native.Nat.{ℕ, zero, suc, _+_, _*_, _-_, max, _≤_, _<_}

@@ -1,5 +1,5 @@
--- The laws of `rounded`: nearest, range, whole quotient, scale, monotone. Proofs above cite these and do not unfold `rounded`. No other law is stated:
--- these hold whichever way halves go. Range and whole quotient follow from nearest.
+-- The laws of `rounded`: nearest, range, whole quotient, scale, monotone. Proofs above cite these and do not unfold
+-- `rounded`. No other law is stated: these hold whichever way halves go. Range and whole quotient follow from nearest.
 use mathlib.Core.Path.{_≡_, refl, subst, subst₂}
 use mathlib.Core.List.{List, [], _∷_, Forall₂}
 use Prim.Native.Nat.{ℕ, suc, _*_, _/_, _<_, _≤_}

@@ -1,7 +1,8 @@
--- The needs of signed code. A signed local is its bits, so a need about `a * b + c` reads each operand back from its bits, a layer `toZ w (ofZ w ..)` for each
--- operation. An expression over leaves has the readings that such needs show: the bits that the code holds (`held`) and the exact value.
--- `operation-fits L o a b tt` proves that an operation's result fits, and `reads-exact L e tt` that what is held reads as the exact value.
--- A leaf is made by `of-number`, `of-bits`, `of-narrow` or `of-unsigned`. A signed test is read by `less-taken` and its like.
+-- The needs of signed code. A signed local is its bits, so a need about `a * b + c` reads each operand back from its
+-- bits, a layer `toZ w (ofZ w ..)` for each operation. An expression over leaves has the readings that such needs show:
+-- the bits that the code holds (`held`) and the exact value. `operation-fits L o a b tt` proves that an operation's
+-- result fits, and `reads-exact L e tt` that what is held reads as the exact value. A leaf is made by `of-number`,
+-- `of-bits`, `of-narrow` or `of-unsigned`. A signed test is read by `less-taken` and its like.
 use mathlib.Core.Path.{_≡_, sym, _∙_, ap, subst, subst₂}
 use mathlib.Core.List.{List, [], _∷_, map}
 use mathlib.Core.Bool.{Bool, true, false, not, _&&_}

@@ -1,6 +1,7 @@
--- Sizes of integers by computation. From a bound for the size of each variable, `bound` computes one for an expression; a closed test, answered by `tt`, then
--- shows that the value fits a signed width: `fits-by-size w ρ ns a s tt` proves `SFits w (value ρ a)` from `s : Sized ρ ns`.
--- A size loses the least number of a width. Where the whole range counts, go by `fits-between`.
+-- Sizes of integers by computation. From a bound for the size of each variable, `bound` computes one for an expression;
+-- a closed test, answered by `tt`, then shows that the value fits a signed width: `fits-by-size w ρ ns a s tt` proves
+-- `SFits w (value ρ a)` from `s : Sized ρ ns`. A size loses the least number of a width. Where the whole range counts,
+-- go by `fits-between`.
 use mathlib.Core.Path.{sym, subst}
 use mathlib.Core.List.{List, [], _∷_}
 use Prim.Native.Nat.{ℕ, zero, suc, _+_, _*_, _^_, _≤_}

@@ -1,5 +1,6 @@
--- The laws of weighted sums: linear in the values, in the range of the values that count, near where the values are near, and the same whatever stands at a
--- weight of 0. Callers cite these and do not unfold `weightedSum`. `Forall₂` (mathlib) pairs weights with values, or values with values, term by term.
+-- The laws of weighted sums: linear in the values, in the range of the values that count, near where the values are
+-- near, and the same whatever stands at a weight of 0. Callers cite these and do not unfold `weightedSum`. `Forall₂`
+-- (mathlib) pairs weights with values, or values with values, term by term.
 use mathlib.Core.Path.{_≡_, refl, sym, _∙_, ap, subst}
 use mathlib.Core.Logic.{_⊎_, inr, ⊎-elim}
 use mathlib.Core.List.{List, [], _∷_, map, zipWith, Forall₂, Forall₂·nil, Forall₂·cons}
@@ -31,7 +32,8 @@ linear f z s (w ∷ ws) (v ∷ vs) [] e = absurd (omega arith)
 linear f z s (w ∷ ws) (v ∷ vs) (u ∷ us) e =
     ap (λ (x : ℤ). w *ℤ f v u +ℤ x) (linear f z s ws vs us (omega arith)) ∙ s w v u (weightedSum ws vs) (weightedSum ws us)
 
--- a term of each list, over the weight, the two values and the two sums that follow: what `linear` asks of a sum and of a difference
+-- a term of each list, over the weight, the two values and the two sums that follow: what `linear` asks of a sum and of
+-- a difference
 abbrev first : Expr
 first = var 0 ⊗ var 1 ⊕ var 3
 

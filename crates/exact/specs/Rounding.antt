@@ -18,7 +18,8 @@ four-below : floorQuotient (negsuc 7) 2 ≡ negsuc 3
 unfolding floorQuotient
 four-below = refl
 
--- n / d to the nearest whole number, halves upwards, for d above 0: n / d plus a half, rounded down. Over 2d, n / d is 2n and a half is d.
+-- n / d to the nearest whole number, halves upwards, for d above 0: n / d plus a half, rounded down. Over 2d, n / d is
+-- 2n and a half is d.
 unfoldable pub rounded : ℤ → ℕ → ℤ
 rounded n d = floorQuotient (pos 2 *ℤ n +ℤ pos d) (2 * d)
 

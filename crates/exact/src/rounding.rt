@@ -1,4 +1,5 @@
-// Rounding of a quotient of signed numbers. Division in the language goes towards zero; that slip is shut out here, once.
+// Rounding of a quotient of signed numbers. Division in the language goes towards zero; that slip is shut out here,
+// once.
 ghost use mathlib.Core.Path.{_≡_};
 ghost use Prim.Native.Nat.{_<_, _≤_, _^_};
 ghost use lib.IntN.{pos, natAbs};
@@ -13,7 +14,8 @@ fn floor_quotient(a: i64, b: i64) -> i64
     if a < 0 { -1 - (-1 - a) / b } else { a / b }
 }
 
-// n / d to the nearest whole number, halves upwards. The bounds keep 2n + d within an i64; a weighted sum meets the one on n.
+// n / d to the nearest whole number, halves upwards. The bounds keep 2n + d within an i64; a weighted sum meets the one
+// on n.
 pub fn round_quotient(n: i64, d: u64) -> i64
     requires { ⌜ (0 < d) × (d ≤ 2 ^ 61) × (natAbs n ≤ 2 ^ 61) ⌝ }
     ensures { λ r. ⌜ r ≡ rounded n d ⌝ }

@@ -1,13 +1,13 @@
-// Weighted sums and rounded weighted means of signed numbers, for three, six and nine terms: the controls of a vertex, of an edge's two
-// vertices, and of a triangle's three.
+// Weighted sums and rounded weighted means of signed numbers, for three, six and nine terms: the controls of a vertex,
+// of an edge's two vertices, and of a triangle's three.
 use crate::rounding::round_quotient;
 ghost use mathlib.Core.Path.{_≡_};
 ghost use Prim.Native.Nat.{_<_, _≤_, _^_};
 ghost use Rattle.exact.specs.WeightedSum.{weightedSum, Summable, Summed, Within};
 ghost use Rattle.exact.specs.Rounding.{rounded};
 
-// Weights times values, added up. Nine terms whose weights are at most 2 to the power 26 in size stay below 2 to the power 61,
-// whatever the values are.
+// Weights times values, added up. Nine terms whose weights are at most 2 to the power 26 in size stay below 2 to the
+// power 61, whatever the values are.
 fn weighted_sum(weights: &[i64], values: &[i32]) -> i64
     requires { ⌜ Summable (now weights) (now values) ⌝ }
     ensures { λ r. ⌜ Summed (now (weights .entry)) (now (values .entry)) r ⌝ }

@@ -1,4 +1,5 @@
-// The listing program: a net file from standard input, refined once, and the points of its vertices as text; or the number of its first fault.
+// The listing program: a net file from standard input, refined once, and the points of its vertices as text; or the
+// number of its first fault.
 use libc::STDIN_FILENO;
 use libc::STDOUT_FILENO;
 use listing_text::ListAnswer;
@@ -35,7 +36,8 @@ fn print_refusal(n: u32) {
     io::write_all(STDOUT_FILENO, &line[..count]);
 }
 
-// At most the first 65,536 bytes are taken, and the two nets have room for 16,384 numbers each. Nothing is printed before it is known whether something is refused.
+// At most the first 65,536 bytes are taken, and the two nets have room for 16,384 numbers each. Nothing is printed
+// before it is known whether something is refused.
 fn main() {
     let mut input = io::large_buffer();
     let taken = io::read_full(STDIN_FILENO, &mut input);

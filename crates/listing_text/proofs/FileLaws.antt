@@ -1,4 +1,5 @@
--- From a net file to the refined net: the faults of reading and of refining are one list, and what was read is what is refined.
+-- From a net file to the refined net: the faults of reading and of refining are one list, and what was read is what is
+-- refined.
 use mathlib.Core.Path.{_≡_, sym, ap, subst, _∙_}
 use mathlib.Core.Bool.{Bool}
 use mathlib.Core.List.{List, [], _∷_, _++_}

@@ -1,4 +1,5 @@
--- The pieces of a listing: a net that is taken refuses no vertex its point, which vertex a piece is of, and that the pieces are the listing.
+-- The pieces of a listing: a net that is taken refuses no vertex its point, which vertex a piece is of, and that the
+-- pieces are the listing.
 use mathlib.Core.Path.{_≡_, sym, ap, _∙_}
 use mathlib.Core.List.{List, [], _∷_, _++_, append-nil, append-assoc}
 use Prim.Native.Nat.{ℕ, zero, suc, _+_, _-_, _*_, _/_, _%_, _<_}

@@ -1,5 +1,6 @@
--- Document 01, "Door corner", the listing program: 'prints "net" with the refined width and height, then per refined vertex, row by row, column, row, x, y, z of the
--- surface point', and 'A refusal prints one line, "refused", a space and the number'. Texts are bytes in ASCII.
+-- Document 01, "Door corner", the listing program: 'prints "net" with the refined width and height, then per refined
+-- vertex, row by row, column, row, x, y, z of the surface point', and 'A refusal prints one line, "refused", a space
+-- and the number'. Texts are bytes in ASCII.
 use mathlib.Core.Path.{_≡_, refl}
 use mathlib.Core.List.{List, [], _∷_, _++_}
 use Prim.Native.Nat.{ℕ, zero, suc, _*_, _/_, _%_}
@@ -34,11 +35,13 @@ pointLine i j x y z =
 unfoldable pub refusalLine : ℕ → List ℕ
 refusalLine n = refusedWord ++ space ++ decimal n ++ lineEnd
 
--- no line is longer, where a side has at most 1,025 vertices and numbers have 32 bits: "1024 1024 -2147483648 -2147483648 -2147483648" and the line end
+-- no line is longer, where a side has at most 1,025 vertices and numbers have 32 bits: "1024 1024 -2147483648
+-- -2147483648 -2147483648" and the line end
 abbrev pub longestLine : ℕ
 longestLine = 46
 
--- the line of vertex (i, j) of a net of width w and height h: 'x, y, z of the surface point', which is at place (1024i, 1024j)
+-- the line of vertex (i, j) of a net of width w and height h: 'x, y, z of the surface point', which is at place (1024i,
+-- 1024j)
 abbrev pub vertexLine : List ℤ → ℕ → ℕ → ℕ → ℕ → List ℕ
 vertexLine net w h i j =
     pointLine i j
@@ -50,13 +53,14 @@ vertexLine net w h i j =
 unfoldable pub listing : List ℤ → ℕ → ℕ → List ℕ
 listing net w h = headLine w h ++ runs h (λ j. runs w (λ i. vertexLine net w h i j))
 
--- the listing in pieces: 0 is the first line, and n above 0 the line of vertex n - 1, row by row. One after the other they are the listing (`pieces-list`).
+-- the listing in pieces: 0 is the first line, and n above 0 the line of vertex n - 1, row by row. One after the other
+-- they are the listing (`pieces-list`).
 unfoldable pub pieceText : List ℤ → ℕ → ℕ → ℕ → List ℕ
 pieceText net w h zero = headLine w h
 pieceText net w h (suc n) = vertexLine net w h (n % w) (n / w)
 
--- worked cases: lines of document 01's listing, a line with numbers below zero, and the line of refusal 12; piece 6 of a net of 3 by 3 is the line of vertex (2, 1).
--- `DoorListing.antt` has the whole listing of the door corner.
+-- worked cases: lines of document 01's listing, a line with numbers below zero, and the line of refusal 12; piece 6 of
+-- a net of 3 by 3 is the line of vertex (2, 1). `DoorListing.antt` has the whole listing of the door corner.
 head-of-three : headLine 3 3 ≡ 110 ∷ 101 ∷ 116 ∷ 32 ∷ 51 ∷ 32 ∷ 51 ∷ 10 ∷ []
 unfolding headLine decimal digitsOf
 head-of-three = refl

@@ -29,7 +29,8 @@ abbrev pub listTold : ListAnswer → ℕ × List ℕ
 listTold (listed.Net w h) = (0, w ∷ h ∷ [])
 listTold (listed.Refused n) = (n, [])
 
--- 'reads a net file .., refines once': the first fault of reading into a buffer of `room` numbers, and then of refining into one of `space`; one step needs no scratch
+-- 'reads a net file .., refines once': the first fault of reading into a buffer of `room` numbers, and then of refining
+-- into one of `space`; one step needs no scratch
 abbrev pub listRefusal : List ℕ → ℕ → ℕ → ℕ
 listRefusal file room space =
     (let w = fileWidth file in

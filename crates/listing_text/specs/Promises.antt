@@ -16,7 +16,8 @@ use Rattle.listing_text.specs.Printed.{bufferSize, listRefusal, refinedF
 abbrev pub PiecesList : Type 0
 PiecesList = (net : List ℤ) (w h : ℕ) → runs (1 + w * h) (pieceText net w h) ≡ listing net w h
 
--- one after the other, the pieces of what one refinement of the file's net leaves in the buffer are what is printed (`pieces-printed`)
+-- one after the other, the pieces of what one refinement of the file's net leaves in the buffer are what is printed
+-- (`pieces-printed`)
 abbrev pub PiecesPrinted : Type 0
 PiecesPrinted =
     (file : List ℕ) (buffer : List ℤ) → length buffer ≡ bufferSize → listRefusal file bufferSize bufferSize ≡ 0 →

@@ -35,8 +35,8 @@ fn refine_read(net: &[i32], w: usize, h: usize, refined: &mut [i32]) -> ListAnsw
     }
 }
 
-// The file's numbers over the front of `net`, and the net that one refinement makes of them over the front of `refined`; or the first fault of reading and then of
-// refining. It asks nothing of its caller.
+// The file's numbers over the front of `net`, and the net that one refinement makes of them over the front of
+// `refined`; or the first fault of reading and then of refining. It asks nothing of its caller.
 pub fn refine_file(file: &[u8], net: &mut [i32], refined: &mut [i32]) -> ListAnswer
     ensures { λ r. ⌜ listTold r ≡ listAnswer (now (file .entry)) (length (now (net .entry))) (length (now (refined .entry))) ⌝ }
     ensures { λ r. ⌜ now (net .exit) ≡ readNet (now (file .entry)) (now (net .entry)) ⌝ }

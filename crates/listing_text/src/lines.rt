@@ -1,4 +1,5 @@
-// The lines, each from the front of a lent output. What the inner functions ask is met by `list_refusal` and `list_piece`.
+// The lines, each from the front of a lent output. What the inner functions ask is met by `list_refusal` and
+// `list_piece`.
 use decimal::store_count;
 use decimal::store_number;
 ghost use mathlib.Core.Path.{_≡_};
@@ -44,7 +45,8 @@ pub fn store_point_line(i: usize, j: usize, x: i32, y: i32, z: i32, out: &mut [u
     store_number(z, b'\n', d, out)
 }
 
-// The line of a refusal over the front of `out`, and how long it is. For the listing program, which lends room for a line.
+// The line of a refusal over the front of `out`, and how long it is. For the listing program, which lends room for a
+// line.
 pub fn list_refusal(n: u32, out: &mut [u8]) -> usize
     requires { ⌜ longestLine ≤ length (now out) ⌝ }
     ensures { λ r. ⌜ now (out .exit) ≡ over (refusalLine n) (now (out .entry)) ⌝ }

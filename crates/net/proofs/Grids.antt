@@ -1,4 +1,5 @@
--- Grids in storage, whatever the length n of a vertex's record: how long they are, where their numbers stand, and what they are made of.
+-- Grids in storage, whatever the length n of a vertex's record: how long they are, where their numbers stand, and what
+-- they are made of.
 use mathlib.Core.Path.{_≡_, sym, ap, _∙_}
 use mathlib.Core.Bool.{false}
 use mathlib.Core.List.{List}

@@ -59,7 +59,7 @@ any-longer l a b h e =
     let rest : a + (b - a) ≡ b = omega arith in
     or-yes (anyBeyond (take a l)) (anyBeyond (take (b - a) (drop a l))) e ∙ sym (any-front l a (b - a)) ∙ ap (λ (k : ℕ). anyBeyond (take k l)) rest
 
--- ---- a whole net: any part of the numbers of a net in range is in range, and a net is in range where its first numbers are
+-- ---- a whole net: any part of the numbers of a net in range is, and a net is in range where its first numbers are
 
 pub part-in-range : (net : List ℤ) (w h at m : ℕ) → netBeyond net w h ≡ false → at + m ≤ numbers w h → anyBeyond (take m (drop at net)) ≡ false
 unfolding netBeyond

@@ -109,7 +109,8 @@ pointStride = 3
 abbrev pub stride : ℕ
 stride = 3 * pointStride
 
--- 'stores vertices row by row': where the record of a vertex begins where each vertex has n numbers, and the records one after the other
+-- 'stores vertices row by row': where the record of a vertex begins where each vertex has n numbers, and the records
+-- one after the other
 abbrev pub recordStart : ℕ → ℕ → Vertex → ℕ
 recordStart n w v = n * (v .row * w + v .column)
 
@@ -152,9 +153,9 @@ entry c k x = getD (getD c (rank k) []) x (pos 0)
 abbrev pub field : List ℤ → ℕ → ℕ → Field
 field net w x v k = entry (controlTriangle net w v) k x
 
--- worked cases: the steps add up to zero; the down triangle of cell (3, 5); a net of 4 by 3 has 108 numbers, and vertex (1, 2) of it begins at
--- number 81; in a grid of 3 by 2 with two numbers a vertex, its column and its row, vertex (2, 1) begins at number 10; y of control 2 of vertex
--- (1, 0) of a net of width 2 is its number 13
+-- worked cases: the steps add up to zero; the down triangle of cell (3, 5); a net of 4 by 3 has 108 numbers, and vertex
+-- (1, 2) of it begins at number 81; in a grid of 3 by 2 with two numbers a vertex, its column and its row, vertex (2,
+-- 1) begins at number 10; y of control 2 of vertex (1, 0) of a net of width 2 is its number 13
 steps-close :
     (stepColumn one +ℤ stepColumn two +ℤ stepColumn three ≡ pos 0) × (stepRow one +ℤ stepRow two +ℤ stepRow three ≡ pos 0)
 steps-close = (refl, refl)

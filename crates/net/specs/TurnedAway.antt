@@ -23,8 +23,8 @@ abbrev pub accepted : ℕ → Bool
 accepted n = eqb n 0
 
 module _ {ℓ} {A : Type ℓ} where
-  -- 'A refusal answers its number and changes no lent memory': the result over the front of a lent output where nothing is refused; else the
-  -- output as it was
+  -- 'A refusal answers its number and changes no lent memory': the result over the front of a lent output where nothing
+  -- is refused; else the output as it was
   abbrev pub outputAfter : ℕ → List A → List A → List A
   outputAfter refusal result out = cond (accepted refusal) (over result out) out
 
@@ -72,8 +72,8 @@ unfoldable pub vertexPart : List ℤ → ℕ → ℕ → ℕ → ℕ → List �
 vertexPart net w h i j =
     cond (accepted (vertexRefusal net w h i j)) (vertexNumbers net w (vertexAt i j)) []
 
--- worked cases: document 01's examples of 1, 2 and 3, the limits that are accepted, a missing vertex of a short net, an output that is refused and one
--- that is written, and a part
+-- worked cases: document 01's examples of 1, 2 and 3, the limits that are accepted, a missing vertex of a short net, an
+-- output that is refused and one that is written, and a part
 examples :
     (vertexRefusal [] 1 2 0 0 ≡ 1)
     × (vertexRefusal (replicate 35 (pos 0)) 2 2 1 1 ≡ 2)

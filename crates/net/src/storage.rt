@@ -67,7 +67,8 @@ pub fn any_beyond(numbers: &[i32]) -> bool
     false
 }
 
-// Whether one of the numbers of the first n vertices is. A vertex's part at a time: its length is known, so the loop over it is written out.
+// Whether one of the numbers of the first n vertices is. A vertex's part at a time: its length is known, so the loop
+// over it is written out.
 fn first_beyond(net: &[i32], n: usize) -> bool
     requires { ⌜ stride * n ≤ length (now net) ⌝ }
     ensures { λ r. ⌜ r ≡ anyBeyond (take (stride * n) (now (net .entry))) ⌝ }
@@ -83,7 +84,8 @@ fn first_beyond(net: &[i32], n: usize) -> bool
     false
 }
 
-// Whether one of the numbers of a whole net is. For the crates above, which have refused every other size and every net that is too short.
+// Whether one of the numbers of a whole net is. For the crates above, which have refused every other size and every net
+// that is too short.
 pub fn net_beyond(net: &[i32], w: usize, h: usize) -> bool
     requires { ⌜ (badSize w h ≡ false) × (numbers w h ≤ length (now net)) ⌝ }
     ensures { λ r. ⌜ r ≡ netBeyond (now (net .entry)) w h ⌝ }
@@ -91,7 +93,8 @@ pub fn net_beyond(net: &[i32], w: usize, h: usize) -> bool
     first_beyond(net, w * h)
 }
 
-// Whether one of the numbers of vertex (i, j) is. For the crates above, which have refused every vertex that is not in the net.
+// Whether one of the numbers of vertex (i, j) is. For the crates above, which have refused every vertex that is not in
+// the net.
 pub fn vertex_beyond(net: &[i32], w: usize, i: usize, j: usize) -> bool
     requires { ⌜ start w (vertexAt i j) + stride ≤ length (now net) ⌝ }
     ensures { λ r. ⌜ r ≡ anyBeyond (vertexNumbers (now (net .entry)) w (vertexAt i j)) ⌝ }

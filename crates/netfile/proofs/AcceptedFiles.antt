@@ -1,4 +1,5 @@
--- A file that is taken: its length, that no shorter and no longer one is taken with the same bytes, and that its net writes back to it.
+-- A file that is taken: its length, that no shorter and no longer one is taken with the same bytes, and that its net
+-- writes back to it.
 use mathlib.Core.Path.{_≡_, refl, sym, ap, subst, _∙_}
 use mathlib.Core.Bool.{Bool, false}
 use mathlib.Core.List.{List, [], _∷_, _++_}

@@ -1,5 +1,5 @@
--- Document 01, "Net file", and demand 2: 'Written files read back, accepted files write back byte for byte'. Statements about the definitions;
--- the calls are held to these by their contracts.
+-- Document 01, "Net file", and demand 2: 'Written files read back, accepted files write back byte for byte'. Statements
+-- about the definitions; the calls are held to these by their contracts.
 use mathlib.Core.Path.{_≡_}
 use mathlib.Core.Bool.{Bool, false}
 use mathlib.Core.List.{List, [], _∷_, _++_}

@@ -27,7 +27,8 @@ fn too_short_for(w: usize, h: usize, room: usize) -> bool
     room < STRIDE * (w * h)
 }
 
-// The net's file over the front of `out`, and the net that is read from these bytes over the front of `back`: the net's first 9wh numbers.
+// The net's file over the front of `out`, and the net that is read from these bytes over the front of `back`: the net's
+// first 9wh numbers.
 pub fn copy_through_file(
     net: &[i32],
     w: usize,

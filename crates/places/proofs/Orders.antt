@@ -1,4 +1,5 @@
--- The order of three shares: which order it is by comparisons, and that it is document 01's: from the largest to the smallest, equals in corner order.
+-- The order of three shares: which order it is by comparisons, and that it is document 01's: from the largest to the
+-- smallest, equals in corner order.
 use mathlib.Core.Path.{_≡_, refl, ap, subst}
 use mathlib.Core.Bool.{Bool, true, false}
 use Prim.Native.Nat.{ℕ, _≤_, _<_}

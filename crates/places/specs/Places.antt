@@ -1,12 +1,13 @@
--- Document 01, "Surface point": places at any edge count D, the triangle chosen for a place, the shares of its corners and their order, and in which
--- triangles a place lies.
+-- Document 01, "Surface point": places at any edge count D, the triangle chosen for a place, the shares of its corners
+-- and their order, and in which triangles a place lies.
 use mathlib.Core.Path.{_≡_, refl}
 use mathlib.Core.Bool.{Bool, true, false, cond}
 use Prim.Native.Nat.{ℕ, _+_, _-_, _*_, _/_, _≤_, min}
 use lib.Dec.{leb, ltb, lit≤}
 use Rattle.net.specs.Net.{Index, one, two, three, Triangle, triangleAt}
 
--- a place (document 01's term: a parameter of the surface, counted in D-ths of an edge) of the grid: 'p up to 1024(w-1), q up to 1024(h-1)'
+-- a place (document 01's term: a parameter of the surface, counted in D-ths of an edge) of the grid: 'p up to
+-- 1024(w-1), q up to 1024(h-1)'
 abbrev pub OnGrid : ℕ → ℕ → ℕ → ℕ → ℕ → Type 0
 OnGrid D w h p q = (p ≤ D * (w - 1)) × (q ≤ D * (h - 1))
 
@@ -18,7 +19,8 @@ cell D n p = min (p / D) (n - 2)
 abbrev pub rest : ℕ → ℕ → ℕ → ℕ
 rest D n p = p - D * cell D n p
 
--- the shares (document 01's term: barycentric coordinates times D) of the corners of an up triangle and of a down triangle
+-- the shares (document 01's term: barycentric coordinates times D) of the corners of an up triangle and of a down
+-- triangle
 abbrev pub upShare : ℕ → ℕ → ℕ → Index → ℕ
 upShare D f g one = D - f - g
 upShare D f g two = f
@@ -88,8 +90,9 @@ gapB o a = 2 * (a (cornerQ o) - a (cornerT o))
 abbrev pub gapG : Order → (Index → ℕ) → ℕ
 gapG o a = 3 * a (cornerT o)
 
--- 'At edge count D a place lies in the up triangle of cell (i, j) exactly when p - Di and q - Dj are both at least 0 and their sum is at
--- most D; in the down triangle exactly when both are at most D and their sum is at least D.' Said without a difference.
+-- 'At edge count D a place lies in the up triangle of cell (i, j) exactly when p - Di and q - Dj are both at least 0
+-- and their sum is at most D; in the down triangle exactly when both are at most D and their sum is at least D.' Said
+-- without a difference.
 abbrev pub LiesUp : ℕ → ℕ → ℕ → ℕ → ℕ → Type 0
 LiesUp D p q i j = (D * i ≤ p) × (D * j ≤ q) × (p + q ≤ D * i + D * j + D)
 
@@ -103,9 +106,9 @@ LiesBy true = LiesDown
 abbrev pub LiesIn : ℕ → ℕ → ℕ → Triangle → Type 0
 LiesIn D p q t = LiesBy (t .down) D p q (t .column) (t .row)
 
--- worked cases: the last place of a side of two lies in cell 0; place (700, 600) of a net of 2 by 2 lies in the down triangle, with shares 424, 324 and
--- 276; equal shares stay in corner order; place (1024, 0) lies in the up
--- and in the down triangle of cell (0, 0), whose corner it is
+-- worked cases: the last place of a side of two lies in cell 0; place (700, 600) of a net of 2 by 2 lies in the down
+-- triangle, with shares 424, 324 and 276; equal shares stay in corner order; place (1024, 0) lies in the up and in the
+-- down triangle of cell (0, 0), whose corner it is
 last-cell : (cell 1024 2 1024 ≡ 0) × (rest 1024 2 1024 ≡ 1024) × (cell 1024 3 1024 ≡ 1)
 last-cell = (refl, refl, refl)
 

@@ -38,7 +38,7 @@ fn cell_of(n: usize, p: usize) -> usize
     if p / 1024 < n - 2 { p / 1024 } else { n - 2 }
 }
 
-// The triangle of a place and the shares of its corners. For `points`, which has refused every other place.
+// The triangle of a place and the shares of its corners. For `surface`, which has refused every other place.
 pub fn locate(w: usize, h: usize, p: usize, q: usize) -> Located
     requires { ⌜ (badSize w h ≡ false) × (noPlace 1024 w h p q ≡ false) ⌝ }
     ensures { λ r. ⌜ Placed w h p q (r .i) (r .j) (r .down) (r .a) (r .b) (r .d) ⌝ }
@@ -96,7 +96,7 @@ pub fn place_refusal(net: &[i32], w: usize, h: usize, p: usize, q: usize) -> u32
     0
 }
 
-// The shares of corners 1, 2, 3, put in order. For `points`.
+// The shares of corners 1, 2, 3, put in order. For `surface`.
 pub fn put_in_order(a: usize, b: usize, d: usize) -> Ordered
     requires { ⌜ (a ≤ 1024) × (b ≤ 1024) × (d ≤ 1024) ⌝ }
     ensures { λ r. ⌜ InOrder (orderOf (shares a b d)) (shares a b d) (r .p) (r .q) (r .t) (r .ahead) (r .a) (r .b) (r .g) ⌝ }

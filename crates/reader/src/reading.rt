@@ -1,4 +1,5 @@
-// The reader: the whole file is looked through before the first number is stored. What the inner functions ask is met by those below them in this file.
+// The reader: the whole file is looked through before the first number is stored. What the inner functions ask is met
+// by those below them in this file.
 use crate::answers::ReadAnswer;
 use net::POINT_STRIDE;
 use net::STRIDE;
@@ -103,7 +104,8 @@ fn point_refusal(left: &[u8]) -> u32
     number_refusal(&left[8..], 5)
 }
 
-// The same of n control points whose words are all there. A part of twelve bytes at a time: its length is known, so that no length is tested.
+// The same of n control points whose words are all there. A part of twelve bytes at a time: its length is known, so
+// that no length is tested.
 fn whole_points_refusal(file: &[u8], n: usize) -> u32
     requires { ⌜ headSize + pointSize * n ≤ length (now file) ⌝ }
     ensures { λ r. ⌜ r ≡ firstFault (runs n (λ i. pointFaults (fromPoint (now (file .entry)) i))) ⌝ }
@@ -201,7 +203,8 @@ fn load_points(file: &[u8], n: usize, net: &mut [i32])
     }
 }
 
-// The same as `read`, for the crates above: `short` is whether another output that they were lent is too short, which is 5 too.
+// The same as `read`, for the crates above: `short` is whether another output that they were lent is too short, which
+// is 5 too.
 pub fn read_with(file: &[u8], short: bool, net: &mut [i32]) -> ReadAnswer
     ensures { λ r. ⌜ readTold r ≡ readAnswerWith (now (file .entry)) (short || shortFor (now (file .entry)) (length (now (net .entry)))) ⌝ }
     ensures { λ r. ⌜ now (net .exit) ≡ readNetWith (now (file .entry)) (short || shortFor (now (file .entry)) (length (now (net .entry)))) (now (net .entry)) ⌝ }

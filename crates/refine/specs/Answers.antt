@@ -27,8 +27,8 @@ refineAnswer net w h k out scratch = (refusalOf net w h k out scratch, accepted 
 abbrev pub refineOutput : List ℤ → ℕ → ℕ → ℕ → List ℤ → List ℤ → List ℤ
 refineOutput net w h k out scratch = outputAfter (refusalOf net w h k out scratch) (refinedNet net w h k) out
 
--- 'its first numbers up to that size are free afterwards, the rest unchanged': so many numbers of the scratch are free, none where k is below 2 or
--- the call is refused
+-- 'its first numbers up to that size are free afterwards, the rest unchanged': so many numbers of the scratch are free,
+-- none where k is below 2 or the call is refused
 abbrev pub freeScratch : ℕ → ℕ → ℕ → ℕ → ℕ
 freeScratch refusal k w h = cond (accepted refusal) (scratchNeed k w h) 0
 

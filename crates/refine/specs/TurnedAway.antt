@@ -15,11 +15,13 @@ use Rattle.steps.specs.RefinedNet.{numbersAfter, scratchNeed}
 abbrev pub tooDeep : ℕ → ℕ → ℕ → Bool
 tooDeep w h k = ltb 6 k || (ltb 1025 (sideAfter k w) || ltb 1025 (sideAfter k h))
 
--- 5: an output of `room` numbers is shorter than the refined net, or a scratch of `spare` numbers shorter than k steps need
+-- 5: an output of `room` numbers is shorter than the refined net, or a scratch of `spare` numbers shorter than k steps
+-- need
 abbrev pub tooShort : ℕ → ℕ → ℕ → ℕ → ℕ → Bool
 tooShort w h k room spare = ltb room (numbersAfter k w h) || ltb spare (scratchNeed k w h)
 
--- the rows that look at sizes alone, and those that look at the net; `short` is whether a lent output or scratch is too short, and 3 looks at the whole net
+-- the rows that look at sizes alone, and those that look at the net; `short` is whether a lent output or scratch is too
+-- short, and 3 looks at the whole net
 abbrev pub sizeFaults : ℕ → ℕ → ℕ → List Fault
 sizeFaults w h k = (badSize w h, 1) ∷ (tooDeep w h k, 4) ∷ []
 
@@ -29,7 +31,8 @@ netFaults net w h short = (shortNet net w h, 2) ∷ (short, 5) ∷ (netBeyond ne
 abbrev pub refineRefusal : List ℤ → ℕ → ℕ → ℕ → Bool → ℕ
 refineRefusal net w h k short = firstFault (sizeFaults w h k ++ netFaults net w h short)
 
--- worked cases: document 01's example of 4 and the limit that is accepted; a great k; the lengths that two steps of 2 by 2 need; and the order, of a net whose first number is beyond the range
+-- worked cases: document 01's example of 4 and the limit that is accepted; a great k; the lengths that two steps of 2
+-- by 2 need; and the order, of a net whose first number is beyond the range
 depths : (tooDeep 18 2 6 ≡ true) × (tooDeep 17 17 6 ≡ false) × (tooDeep 2 2 7 ≡ true) × (tooDeep 2 2 18446744073709551615 ≡ true) × (tooDeep 2 514 1 ≡ true)
 depths = (refl, refl, refl, refl, refl)
 

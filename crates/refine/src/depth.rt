@@ -1,4 +1,5 @@
-// Sides after k steps, and the refusals of refining. What the inner functions ask is met by those below them and by the crate's other modules.
+// The refusals of refining: sides after k steps, lengths and the range. What the inner functions ask is met by those
+// below them, and what `net_refusal` asks by `refine` and `refined_point`.
 use net::STRIDE;
 use net::bad_size;
 use net::net_beyond;
@@ -60,7 +61,8 @@ fn too_short(w: usize, h: usize, k: usize, room: usize, spare: usize) -> bool
     shorter_than(spare, w, h, k - 1)
 }
 
-// The first of 2, 5 and 3, or 0; `short` is whether another output is too short. For `refine` and `refined_point`, which have refused a size and a k by 1 and 4 first.
+// The first of 2, 5 and 3, or 0; `short` is whether another output is too short. For `refine` and `refined_point`,
+// which have refused a size and a k by 1 and 4 first.
 pub fn net_refusal(
     net: &[i32],
     w: usize,

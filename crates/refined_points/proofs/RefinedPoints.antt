@@ -1,5 +1,5 @@
--- Demand 3 of the calls: what refining leaves in the output is a net that is taken, its surface points are those of the refined fields, and so they are near
--- the exact spline of the starting net and within its control values.
+-- Demand 3 of the calls: what refining leaves in the output is a net that is taken, its surface points are those of the
+-- refined fields, and so they are near the exact spline of the starting net and within its control values.
 use mathlib.Core.Path.{_≡_, refl, sym, ap, subst, _∙_}
 use mathlib.Core.Bool.{Bool, false, _||_}
 use mathlib.Core.List.{List, [], _∷_, _++_}

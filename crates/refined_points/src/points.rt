@@ -52,7 +52,8 @@ fn refusal_at(
     net_refusal(net, w, h, k, short, room, spare)
 }
 
-// The same as `refined_point`, for the crates above: `short` is whether another output that they were lent is too short, which is 5 too.
+// The same as `refined_point`, for the crates above: `short` is whether another output that they were lent is too
+// short, which is 5 too.
 pub fn refined_point_with(
     net: &[i32],
     w: usize,
@@ -78,8 +79,9 @@ pub fn refined_point_with(
     surface_point(out, m, n, p, q)
 }
 
-// The net refined by k steps over the front of `out`, and the surface point at place (p, q) of the refined grid; or the first of 1, 4, 6, 2, 5, 3. Its last promise is
-// demand 3: where nothing is refused, the answer is a point near the exact spline of the starting net and within its control values.
+// The net refined by k steps over the front of `out`, and the surface point at place (p, q) of the refined grid; or the
+// first of 1, 4, 6, 2, 5, 3. Its last promise is demand 3: where nothing is refused, the answer is a point near the
+// exact spline of the starting net and within its control values.
 pub fn refined_point(
     net: &[i32],
     w: usize,

@@ -1,4 +1,5 @@
-// The rule of one refinement at a vertex: the control triangles at the two ends of the vertex's edge, weighted by a table.
+// The rule of one refinement at a vertex: the control triangles at the two ends of the vertex's edge, weighted by a
+// table.
 use exact::weighted_mean6;
 ghost use mathlib.Core.Path.{_≡_};
 ghost use mathlib.Core.Bool.{true};
@@ -24,7 +25,8 @@ fn widened(row: [u8; 6]) -> [i64; 6]
     ]
 }
 
-// Six values weighted, over 12, rounded once. The weights are not negative and sum to 12, so the result lies where the values lie, and fits.
+// Six values weighted, over 12, rounded once. The weights are not negative and sum to 12, so the result lies where the
+// values lie, and fits.
 fn refined_number(row: [u8; 6], values: [i32; 6]) -> i32
     requires { ⌜ goodRow row ≡ true ⌝ }
     ensures { λ r. ⌜ r ≡ rounded (weightedSum (map pos row) values) 12 ⌝ }
@@ -51,8 +53,9 @@ fn refined_point(row: [u8; 6], a: [[i32; 3]; 3], b: [[i32; 3]; 3]) -> [i32; 3]
     [x, y, z]
 }
 
-// The control triangle of a refined vertex of a kind, from the control triangles at the two ends of its edge. For the crates above, which hand in a table that
-// passes the test, as `weight_table` does, and the kind of a vertex; it asks nothing of the numbers.
+// The control triangle of a refined vertex of a kind, from the control triangles at the two ends of its edge. For the
+// crates above, which hand in a table that passes the test, as `weight_table` does, and the kind of a vertex; it asks
+// nothing of the numbers.
 pub fn refined_triangle(
     table: [[[u8; 6]; 3]; 4],
     kind: usize,

@@ -1,5 +1,6 @@
--- In every triangle that a place lies in, and in every order of its shares that goes down, document 01's formula gives the same value: 12 times a sum over
--- the vertices and edges of the whole grid, in which each vertex counts by its share at the place.
+-- In every triangle that a place lies in, and in every order of its shares that goes down, document 01's formula gives
+-- the same value: 12 times a sum over the vertices and edges of the whole grid, in which each vertex counts by its
+-- share at the place.
 use mathlib.Core.Path.{_≡_, refl, sym, ap, _∙_}
 use mathlib.Core.Bool.{Bool, true, false, cond}
 use mathlib.Core.List.{List, [], _∷_}
@@ -118,7 +119,7 @@ no-end k a x y = (λ t. lost a t *ℤ (pos 3 *ℤ x k) +ℤ nothing a t *ℤ end
 no-begin : (k : Index) (b : ℕ) (x y : Index → ℤ) → edgeTerm k 0 b x y ≡ pos 0
 no-begin k b x y = (λ t. nothing b t *ℤ (pos 3 *ℤ x k) +ℤ lost b t *ℤ endPart k y) ∙ no-terms (pos 3 *ℤ x k) (endPart k y)
 
--- ---- the terms of a cell: its vertex (i, j), and its edges along e1, e2 and e3, between the vertices (i, j), (i + 1, j) and (i, j + 1)
+-- ---- the terms of a cell: its vertex (i, j), and its edges along e1, e2, e3 between (i, j), (i + 1, j) and (i, j + 1)
 
 abbrev cellTerm : (a b d : ℕ) (x y z : Index → ℤ) → ℤ
 cellTerm a b d x y z = vertexTerm a x +ℤ edgeTerm one a b x y +ℤ edgeTerm two b d y z +ℤ edgeTerm three d a z x

@@ -1,5 +1,6 @@
--- The exact value of document 01's formula is a weighted sum of the nine control values, and the weights are the same in every order of the shares that goes
--- down. They are not negative, sum to 36·D², and those of a corner with share 0 are 0.
+-- The exact value of document 01's formula is a weighted sum of the nine control values, and the weights are the same
+-- in every order of the shares that goes down. They are not negative, sum to 36·D², and those of a corner with share 0
+-- are 0.
 use mathlib.Core.Path.{_≡_, refl, sym, ap, _∙_}
 use mathlib.Core.Bool.{Bool, true, false, cond}
 use mathlib.Core.List.{List, [], _∷_, _++_, map}
@@ -175,8 +176,8 @@ other-way m n = sub-cases m n (square (n - m) ≡ (pos m -ℤ pos n) *ℤ (pos m
         identity (squareE (var 0)) (squareE (var 1 ⊖ (var 0 ⊕ var 1)) ⊖ lit (pos 0)) (pos (n - m) ∷ pos m ∷ []) refl
         ∙ (λ t. (pos m -ℤ pos (whole t)) *ℤ (pos m -ℤ pos (whole t)) -ℤ square (sym e t))
 
--- the weights by the corners 1, 2 and 3, through three of the six squares of differences: of what the first has more than the second and than the third,
--- and the second more than the third
+-- the weights by the corners 1, 2 and 3, through three of the six squares of differences: of what the first has more
+-- than the second and than the third, and the second more than the third
 abbrev pub byShares : (a b d : ℕ) (ab ad bd : ℤ) → List ℤ
 byShares a b d ab ad bd =
     ofCorners true (square a) (square b) (square d) ab ad

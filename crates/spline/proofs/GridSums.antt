@@ -38,7 +38,8 @@ sum-two f (suc n) m h z = go (decLe (m + 2) n) (sum-two f n m)
         let last : n ≡ m + 1 = omega (arith, l, h) in
         (λ t. sumTo (last t) f +ℤ f (last t)) ∙ ap (λ (s : ℤ). s +ℤ f (m + 1)) begun
 
--- over a grid of w columns and h rows, of a function that is 0 away from the columns i and i + 1 and the rows j and j + 1
+-- over a grid of w columns and h rows, of a function that is 0 away from the columns i and i + 1 and the rows j and j +
+-- 1
 abbrev pub gridSum : ℕ → ℕ → (ℕ → ℕ → ℤ) → ℤ
 gridSum w h f = sumTo h (λ j. sumTo w (λ i. f i j))
 

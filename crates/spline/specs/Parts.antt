@@ -1,4 +1,5 @@
--- The parts of the nine control points in the exact value: each one's factor, by the tables of the six Bézier points and the squares of A, B and G.
+-- The parts of the nine control points in the exact value: each one's factor, by the tables of the six Bézier points
+-- and the squares of A, B and G.
 use mathlib.Core.Bool.{Bool, true, false}
 use mathlib.Core.List.{List, [], _∷_, map}
 use Prim.Native.Nat.{ℕ, _*_}
@@ -10,8 +11,8 @@ abbrev pub coefficients : ℕ → ℕ → ℕ → List ℤ
 coefficients A B G =
     pos (A * A) ∷ pos (2 * (A * B)) ∷ pos (2 * (A * G)) ∷ pos (B * B) ∷ pos (2 * (B * G)) ∷ pos (G * G) ∷ []
 
--- 36 times the share of each control point in sP, u, vP, r, m, z: ck, cn, cm of P, then of Q, then of T. In the first table Q is the next
--- corner after P, in the second the previous one.
+-- 36 times the share of each control point in sP, u, vP, r, m, z: ck, cn, cm of P, then of Q, then of T. In the first
+-- table Q is the next corner after P, in the second the previous one.
 abbrev pub partRows : Bool → List (List ℤ)
 partRows true =
     (pos 12 ∷ pos 24 ∷ pos 24 ∷ pos 12 ∷ pos 12 ∷ pos 8 ∷ [])

@@ -1,5 +1,5 @@
--- Document 01, "Surface point": the shares of a place in any triangle that it lies in, the share of any vertex at a place, and the weights of the nine control
--- values in the exact value.
+-- Document 01, "Surface point": the shares of a place in any triangle that it lies in, the share of any vertex at a
+-- place, and the weights of the nine control values in the exact value.
 use mathlib.Core.Path.{_≡_, refl}
 use mathlib.Core.Bool.{Bool, true, false, cond}
 use mathlib.Core.List.{List, [], _∷_, map}
@@ -13,7 +13,8 @@ use Rattle.triangles.specs.BezierPoints.{indexK, indexM, controlList}
 abbrev pub OfNet : ℕ → ℕ → Triangle → Type 0
 OfNet w h t = (t .column + 2 ≤ w) × (t .row + 2 ≤ h)
 
--- the shares of the corners of a triangle at place (p, q) that lies in it, at edge count D: as document 01 has them, with f = p - Di and g = q - Dj
+-- the shares of the corners of a triangle at place (p, q) that lies in it, at edge count D: as document 01 has them,
+-- with f = p - Di and g = q - Dj
 abbrev pub sharesBy : Bool → ℕ → ℕ → ℕ → Index → ℕ
 sharesBy false = upShare
 sharesBy true = downShare
@@ -21,8 +22,9 @@ sharesBy true = downShare
 abbrev pub sharesIn : ℕ → ℕ → ℕ → Triangle → Index → ℕ
 sharesIn D p q t = sharesBy (t .down) D (p - D * t .column) (q - D * t .row)
 
--- the share of any vertex at a place: that of the corner in each triangle that the place lies in, and 0 where the vertex is no corner of one
--- (`share-of-corner`, `no-share-elsewhere`). The greatest of three distances, along the columns, the rows and the diagonals, is what it lacks of D.
+-- the share of any vertex at a place: that of the corner in each triangle that the place lies in, and 0 where the
+-- vertex is no corner of one (`share-of-corner`, `no-share-elsewhere`). The greatest of three distances, along the
+-- columns, the rows and the diagonals, is what it lacks of D.
 abbrev pub apart : ℕ → ℕ → ℕ
 apart m n = m - n + (n - m)
 
@@ -34,8 +36,8 @@ vertexShare D p q v =
 abbrev pub Descending : (Index → ℕ) → Order → Type 0
 Descending a o = (a (cornerQ o) ≤ a (cornerP o)) × (a (cornerT o) ≤ a (cornerQ o))
 
--- the weights of ck, cn and cm of a corner P in the exact value times 36·D², where P has the share a, its neighbour P + ek the share b and P - em the share
--- d. A difference of shares counts where it is above 0.
+-- the weights of ck, cn and cm of a corner P in the exact value times 36·D², where P has the share a, its neighbour P +
+-- ek the share b and P - em the share d. A difference of shares counts where it is above 0.
 abbrev pub square : ℕ → ℤ
 square n = pos (n * n)
 
@@ -57,8 +59,9 @@ weightOf down a P l =
 abbrev pub controlWeights : Bool → (Index → ℕ) → List ℤ
 controlWeights down a = controlList (weightOf down a)
 
--- worked cases: place (700, 600) lies in the down triangle of cell (0, 0) with shares 424, 324 and 276, and (1, 1) is the vertex with share 276; a vertex
--- has 12·D² for each of its own controls; in the middle of a triangle each corner has 72, 36 and 0 for ck, cn and cm, of 36·3²
+-- worked cases: place (700, 600) lies in the down triangle of cell (0, 0) with shares 424, 324 and 276, and (1, 1) is
+-- the vertex with share 276; a vertex has 12·D² for each of its own controls; in the middle of a triangle each corner
+-- has 72, 36 and 0 for ck, cn and cm, of 36·3²
 shares-of-a-place :
     (sharesIn 1024 700 600 (triangleAt 0 0 true) one ≡ 424)
     × (vertexShare 1024 700 600 (vertexAt 1 1) ≡ 276)

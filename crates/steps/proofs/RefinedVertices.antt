@@ -1,4 +1,5 @@
--- The control triangle of one refined vertex: the table's rule is document 01's, and the numbers that it reads lie in the net.
+-- The control triangle of one refined vertex: the table's rule is document 01's, and the numbers that it reads lie in
+-- the net.
 use mathlib.Core.Path.{_≡_, refl, sym, ap, _∙_}
 use mathlib.Core.Bool.{Bool}
 use mathlib.Core.List.{List, _++_}

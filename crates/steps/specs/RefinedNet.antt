@@ -52,8 +52,10 @@ numbersAfter k w h = numbers (sideAfter k w) (sideAfter k h)
 abbrev pub scratchNeed : ℕ → ℕ → ℕ → ℕ
 scratchNeed k w h = cond (ltb k 2) 0 (numbersAfter (k - 1) w h)
 
--- worked cases: of a net of 2 by 2 whose one number that is not 0 is z of c1 of its vertex (0, 0), document 01's 120: as it is stored, no step copies it, and after one step z of the
--- controls of vertices (0, 0), (1, 0) and (0, 1) are 80, 20, 20, then 0, 60, 60, then 30, 0, 60; 17 by 17 after six steps has 9,455,625 numbers, and one step needs no scratch
+-- worked cases: of a net of 2 by 2 whose one number that is not 0 is z of c1 of its vertex (0, 0), document 01's 120:
+-- as it is stored, no step copies it, and after one step z of the controls of vertices (0, 0), (1, 0) and (0, 1) are
+-- 80, 20, 20, then 0, 60, 60, then 30, 0, 60; 17 by 17 after six steps has 9,455,625 numbers, and one step needs no
+-- scratch
 abbrev raised : List ℤ
 raised = pos 0 ∷ pos 0 ∷ pos 120 ∷ replicate (numbers 2 2 - 3) (pos 0)
 

@@ -3,7 +3,8 @@ ghost use mathlib.Core.Path.{_≡_};
 ghost use Prim.Native.Nat.{_≤_};
 ghost use Rattle.subdivision.specs.Refinement.{sideAfter};
 
-// A side of n vertices after k steps. For this crate's other modules, which have refused every other side and k.
+// A side of n vertices after k steps. For the steps and for `refine`, which have refused every other side
+// and k.
 pub fn side_after(n: usize, k: usize) -> usize
     requires { ⌜ (1 ≤ n) × (n ≤ 1025) × (k ≤ 6) ⌝ }
     ensures { λ r. ⌜ r ≡ sideAfter k n ⌝ }

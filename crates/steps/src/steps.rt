@@ -1,5 +1,5 @@
-// One refinement of a lent net, and k of them to and fro between two lent slices. For `refine` and `refined_point`, which have refused all that `refine_steps` does not take; what the
-// others ask is met in this file.
+// One refinement of a lent net, and k of them to and fro between two lent slices. For `refine` and `refined_point`,
+// which have refused all that `refine_steps` does not take; what the others ask is met in this file.
 use crate::sizes::side_after;
 use crate::vertices::refined_vertex;
 use crate::vertices::store_triangle;
@@ -66,8 +66,8 @@ fn last_step(net: &[i32], w: usize, h: usize, k: usize, out: &mut [i32])
     refine_once(net, m, n, out);
 }
 
-// The k times refined net over the front of `out`. The net after k - 1 steps goes into `scratch`, with `out` for its scratch: so the slices change places at each step, and the last
-// one writes `out`.
+// The k times refined net over the front of `out`. The net after k - 1 steps goes into `scratch`, with `out` for its
+// scratch: so the slices change places at each step, and the last one writes `out`.
 pub fn refine_steps(net: &[i32], w: usize, h: usize, k: usize, out: &mut [i32], scratch: &mut [i32])
     requires { ⌜ Depth w h k × (numbers w h ≤ length (now net)) × (numbersAfter k w h ≤ length (now out)) × (scratchNeed k w h ≤ length (now scratch)) ⌝ }
     ensures { λ r. ⌜ now (out .exit) ≡ over (refinedNet (now (net .entry)) w h k) (now (out .entry)) ⌝ }

@@ -1,4 +1,5 @@
-// The refined control triangle at one vertex of the refined grid, and its storage. For one step's loop in `steps.rt`, which is seen to meet what these ask.
+// The refined control triangle at one vertex of the refined grid, and its storage. For one step's loop in `steps.rt`,
+// which is seen to meet what these ask.
 use net::POINT_STRIDE;
 use net::load;
 use net::store_point;
@@ -12,8 +13,8 @@ ghost use Rattle.subdivision.specs.WeightTable.{weights, refinedTriangle};
 ghost use Rattle.steps.specs.RefinedNet.{refinedControls};
 ghost use Rattle.steps.specs.Steps.{threePoints};
 
-// The rule of a kind of vertices on the control triangles of vertices (i, j) and (m, n). Its callers write the kind as a literal, so that the table's rows fold
-// into the sums.
+// The rule of a kind of vertices on the control triangles of vertices (i, j) and (m, n). Its callers write the kind as
+// a literal, so that the table's rows fold into the sums.
 fn rule_of_kind(
     net: &[i32],
     w: usize,
@@ -31,8 +32,8 @@ fn rule_of_kind(
     refined_triangle(weight_table(), kind, a, b)
 }
 
-// The control triangle of vertex (i, j) of the refined grid. A kept vertex has no second one: its neighbour along e1 has no weight and may lie outside the net, so its
-// own controls stand there.
+// The control triangle of vertex (i, j) of the refined grid. A kept vertex has no second one: its neighbour along e1
+// has no weight and may lie outside the net, so its own controls stand there.
 pub fn refined_vertex(net: &[i32], w: usize, i: usize, j: usize) -> [[i32; 3]; 3]
     requires { ⌜ start w (vertexAt ((i + 1) / 2) ((j + 1) / 2)) + stride ≤ length (now net) ⌝ }
     ensures { λ r. ⌜ r ≡ refinedControls (now (net .entry)) w (vertexAt i j) ⌝ }

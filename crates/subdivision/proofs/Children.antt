@@ -1,4 +1,5 @@
--- The four triangles of the refined grid in a triangle: which old corners their corners come from, and where a place of the old triangle lies in them.
+-- The four triangles of the refined grid in a triangle: which old corners their corners come from, and where a place of
+-- the old triangle lies in them.
 use mathlib.Core.Path.{_≡_, refl}
 use mathlib.Core.Bool.{Bool, true, false, cond, not}
 use Prim.Native.Nat.{ℕ, _+_, _-_, _*_, _/_, _≤_}
@@ -80,7 +81,8 @@ source middle one = (one, two)
 source middle two = (one, three)
 source middle three = (two, three)
 
--- the kind of the vertex between corners X and Y, and which of them its edge begins and ends at: from a corner to the next one, along ek
+-- the kind of the vertex between corners X and Y, and which of them its edge begins and ends at: from a corner to the
+-- next one, along ek
 abbrev pub kindBetween : Bool → Index → Index → Kind
 kindBetween down X Y = cond (same X Y) kept (along (indexK down (cond (isNext X Y) X Y)))
 

@@ -1,4 +1,5 @@
--- Refined values at the corners of a triangle's children, by any table that passes the test: means of the values of the triangle's own corners.
+-- Refined values at the corners of a triangle's children, by any table that passes the test: means of the values of the
+-- triangle's own corners.
 use mathlib.Core.Path.{_≡_, refl, sym, ap, _∙_}
 use mathlib.Core.Bool.{Bool, true, false, cond}
 use mathlib.Core.List.{List, [], _∷_}

@@ -58,7 +58,8 @@ child-is-down t k = by (t .down) k
 
 -- ---- the identities: a child's value with the refined control values is 3 times the triangle's
 
--- variables 0 to 2 are the shares of the child's corners, 3 to 5 the squares of their differences, and 6 to 14 the triangle's control values
+-- variables 0 to 2 are the shares of the child's corners, 3 to 5 the squares of their differences, and 6 to 14 the
+-- triangle's control values
 abbrev childE : Bool → Child → Expr
 childE down k =
     summed (bySharesE (var 0) (var 1) (var 2) (var 3) (var 4) (var 5))

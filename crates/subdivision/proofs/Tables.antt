@@ -1,4 +1,5 @@
--- What the test of a table says of each of its rows; our table is document 01's rule; and the rule on control triangles is one refinement of a stored net.
+-- What the test of a table says of each of its rows; our table is document 01's rule; and the rule on control triangles
+-- is one refinement of a stored net.
 use mathlib.Core.Path.{_≡_, refl, sym, _∙_, ap, subst}
 use mathlib.Core.Bool.{Bool, true, false, cond, _&&_}
 use mathlib.Core.List.{List, [], _∷_, map}
@@ -13,12 +14,12 @@ use Rattle.exact.specs.WeightedSum.{weightedSum, total}
 use Rattle.exact.proofs.Parts.{integers}
 use Rattle.exact.proofs.Expressions.{Expr, var, lit, _⊕_, _⊗_, identity}
 use Rattle.exact.proofs.WeightedSumLaws.{NotNegative, sumFrom}
-use Rattle.exact.proofs.RoundingLaws.{rounded-scale}
+use Rattle.exact.proofs.RoundingLaws.{nearest, rounded-scale}
 use Rattle.net.specs.Net.{Index, one, two, three, next, previous, rank, Vertex, entry, field, controlTriangle, same}
 use Rattle.net.proofs.Places.{below-three}
 use Rattle.subdivision.specs.Refinement.{Kind, kept, along, kindOf, beginOf, endOf, ruleBy, exactRefinement, refinement}
 use Rattle.subdivision.specs.WeightTable.{Table, kindNumber, weightsAt, sum, every, goodRow, goodKeptRow, goodKind, passes, six, exactBy, refinedBy, refinedNumber, refinedPoint, refinedTriangle, weights}
-use Rattle.subdivision.specs.Promises.{Quotients, OurTable, OurRefinement}
+use Rattle.subdivision.specs.Promises.{Quotients, StepNearest, OurTable, OurRefinement}
 
 -- ---- from the test of a table to its rows
 
@@ -145,7 +146,11 @@ pub our-refinement : OurRefinement
 unfolding refinedBy refinement
 our-refinement F = λ t v l. rounded (our-table F t v l) 12
 
--- ---- rounding over 12 is rounding of document 01's own quotients
+-- ---- each value is rounded once, and rounding over 12 is rounding of document 01's own quotients
+
+pub step-nearest : StepNearest
+unfolding refinedBy
+step-nearest T F v l = nearest (exactBy T F v l) 12 (lit< tt)
 
 pub quotients : Quotients
 quotients z =

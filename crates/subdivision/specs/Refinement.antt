@@ -1,4 +1,5 @@
--- Document 01, "One refinement", on one coordinate: which vertices a refined vertex comes from, its values times 12 and rounded, and k steps.
+-- Document 01, "One refinement", on one coordinate: which vertices a refined vertex comes from, its values times 12 and
+-- rounded, and k steps.
 use mathlib.Core.Path.{_≡_, refl}
 use mathlib.Core.Bool.{Bool, true, false, cond}
 use Prim.Native.Nat.{ℕ, zero, suc, _+_, _-_, _*_, _/_}
@@ -15,8 +16,8 @@ abbrev pub sideAfter : ℕ → ℕ → ℕ
 sideAfter zero n = n
 sideAfter (suc k) n = refinedSide (sideAfter k n)
 
--- a vertex of the refined net is a kept vertex (document 01's term: an old vertex at twice its column and row), or it is new and halves an edge
--- along ek
+-- a vertex of the refined net is a kept vertex (document 01's term: an old vertex at twice its column and row), or it
+-- is new and halves an edge along ek
 pub data Kind : Type 0 where
   kept : Kind
   along : Index → Kind
@@ -34,8 +35,9 @@ kindBy false true = along three
 abbrev pub kindOf : Vertex → Kind
 kindOf v = kindBy (isOdd (v .column)) (isOdd (v .row))
 
--- A and B = A + ek, the ends of the edge along ek that is halved between the columns i, i + 1 and the rows j, j + 1. e3 points down: an edge along e3 begins
--- at its upper end. A kept vertex has no edge; where two vertices are asked for, it has its neighbour along e1, which does not count.
+-- A and B = A + ek, the ends of the edge along ek that is halved between the columns i, i + 1 and the rows j, j + 1. e3
+-- points down: an edge along e3 begins at its upper end. A kept vertex has no edge; where two vertices are asked for,
+-- it has its neighbour along e1, which does not count.
 abbrev pub beginBy : Kind → ℕ → ℕ → Vertex
 beginBy kept i j = vertexAt i j
 beginBy (along one) i j = vertexAt i j
@@ -58,8 +60,8 @@ endOf v = endBy (kindOf v) (v .column / 2) (v .row / 2)
 abbrev pub keptControl : (Index → ℤ) → Index → ℤ
 keptControl c k = pos 2 *ℤ (pos 4 *ℤ c k +ℤ c (next k) +ℤ c (previous k))
 
--- 12 times cl' of a new vertex on the edge from A (controls a) to B = A + ek (controls b): ck' = (b(k+1) + b(k+2))/2, and for the two others,
--- l = k+1 and l = k+2, cl' = (2ak + al + bl)/4
+-- 12 times cl' of a new vertex on the edge from A (controls a) to B = A + ek (controls b): ck' = (b(k+1) + b(k+2))/2,
+-- and for the two others, l = k+1 and l = k+2, cl' = (2ak + al + bl)/4
 abbrev pub newControl : Index → (Index → ℤ) → (Index → ℤ) → Index → ℤ
 newControl k a b l =
     cond (same l k) (pos 6 *ℤ (b (next k) +ℤ b (previous k))) (pos 3 *ℤ (pos 2 *ℤ a k +ℤ a l +ℤ b l))
@@ -88,8 +90,9 @@ refinements = steps refinement
 abbrev pub exactRefinements : ℕ → Field → Field
 exactRefinements = steps exactRefinement
 
--- worked cases: 17 by 17 refined six times is 1,025 by 1,025; vertex (5, 3) of a refined net halves the edge along e2 from (3, 1) to (2, 2), and vertex (4, 3)
--- the edge along e3 from (2, 2) to (2, 1); of a net that is 1 at control 1 of its vertex (0, 0) and 0 elsewhere, times 12 and times 6
+-- worked cases: 17 by 17 refined six times is 1,025 by 1,025; vertex (5, 3) of a refined net halves the edge along e2
+-- from (3, 1) to (2, 2), and vertex (4, 3) the edge along e3 from (2, 2) to (2, 1); of a net that is 1 at control 1 of
+-- its vertex (0, 0) and 0 elsewhere, times 12 and times 6
 six-steps : sideAfter 6 17 ≡ 1025
 six-steps = refl
 

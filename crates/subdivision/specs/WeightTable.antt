@@ -1,5 +1,6 @@
--- Document 01, "One refinement": 'The weights over 12 stand in one constant table', four kinds of vertices, three controls, six weights each, in the order
--- a1 a2 a3 b1 b2 b3. Refinement by any table, the test that a table passes, and our table.
+-- Document 01, "One refinement": 'The weights over 12 stand in one constant table', four kinds of vertices, three
+-- controls, six weights each, in the order a1 a2 a3 b1 b2 b3. Refinement by any table, the test that a table passes,
+-- and our table.
 use mathlib.Core.Path.{_≡_, refl}
 use mathlib.Core.Bool.{Bool, true, false, _&&_}
 use mathlib.Core.List.{List, [], _∷_, map}
@@ -63,7 +64,8 @@ exactBy t F v l = weightedSum (weightsAt t (kindNumber (kindOf v)) l) (six (F (b
 unfoldable pub refinedBy : Table → Field → Field
 refinedBy t F v l = rounded (exactBy t F v l) 12
 
--- the control triangle of a refined vertex of kind number n, from the control triangles at the two ends of its edge: control l, coordinate x
+-- the control triangle of a refined vertex of kind number n, from the control triangles at the two ends of its edge:
+-- control l, coordinate x
 abbrev pub refinedNumber : Table → ℕ → List (List ℤ) → List (List ℤ) → Index → ℕ → ℤ
 refinedNumber t n a b l x = rounded (weightedSum (weightsAt t n l) (six (λ k. entry a k x) (λ k. entry b k x))) 12
 
@@ -90,7 +92,8 @@ weights =
 pub weights-pass : passes weights ≡ true
 weights-pass = refl
 
--- worked cases: control 2 on an edge along e1 is (2a1 + a2 + b2)/4; a table whose kept row looks at the neighbour does not pass
+-- worked cases: control 2 on an edge along e1 is (2a1 + a2 + b2)/4; a table whose kept row looks at the neighbour does
+-- not pass
 edge-row : weightsAt weights (kindNumber (along one)) two ≡ map pos (row6 6 3 0 0 3 0)
 edge-row = refl
 

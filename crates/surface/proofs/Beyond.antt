@@ -1,4 +1,5 @@
--- Numbers beyond 9wh do not matter to surface points and the viewer's points: each answer is that of the net cut after its 9wh numbers.
+-- Numbers beyond 9wh do not matter to surface points and the viewer's points: each answer is that of the net cut after
+-- its 9wh numbers.
 use mathlib.Core.Path.{_≡_, ap, _∙_}
 use mathlib.Core.Bool.{Bool, true, cond}
 use mathlib.Core.List.{List, [], _∷_, map}

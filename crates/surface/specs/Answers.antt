@@ -27,7 +27,8 @@ unfoldable pub pointAnswer : List ℤ → ℕ → ℕ → ℕ → ℕ → ℕ ×
 pointAnswer net w h p q =
     (pointRefusal net w h p q, cond (accepted (pointRefusal net w h p q)) (surfacePoint net w h p q) [])
 
--- 'each coordinate is converted and divided by 1024, one operation each': to the double of the whole number, over the double 1024
+-- 'each coordinate is converted and divided by 1024, one operation each': to the double of the whole number, over the
+-- double 1024
 abbrev pub millimetres : ℤ → Float
 millimetres z = div binary64 (ofInt binary64 z) (ofInt binary64 (pos 1024))
 

@@ -19,7 +19,8 @@ pointRefusal net w h p q =
     ∷ (triangleBeyond net w (chosen 1024 w h p q), 3)
     ∷ [])
 
--- worked cases: document 01's example of 6, the accepted place p = 1,024 at w = 2, and a number beyond the range at a vertex of the triangle and of none
+-- worked cases: document 01's example of 6, the accepted place p = 1,024 at w = 2, and a number beyond the range at a
+-- vertex of the triangle and of none
 abbrev zeros : List ℤ
 zeros = replicate (numbers 2 2) (pos 0)
 

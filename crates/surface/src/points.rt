@@ -37,7 +37,8 @@ fn squares(a: usize, b: usize, g: usize) -> [i32; 6]
     [aa, ab, ag, bb, bg, gg]
 }
 
-// 36·1024² times the factor of each control point in the point: ck, cn, cm of P, of Q and of T, where Q is the next corner after P.
+// 36·1024² times the factor of each control point in the point: ck, cn, cm of P, of Q and of T, where Q is the next
+// corner after P.
 fn parts_ahead(k: [i32; 6]) -> [i64; 9]
     ensures { λ r. ⌜ r ≡ map (λ row. weightedSum row k) (partRows true) ⌝ }
 {

@@ -1,4 +1,5 @@
--- Numbers beyond 9wh do not matter to a triangle of the net: its control values and their range are those of the net cut after its 9wh numbers.
+-- Numbers beyond 9wh do not matter to a triangle of the net: its control values and their range are those of the net
+-- cut after its 9wh numbers.
 use mathlib.Core.Path.{_≡_}
 use mathlib.Core.Bool.{_||_}
 use mathlib.Core.List.{List}

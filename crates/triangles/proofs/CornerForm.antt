@@ -1,5 +1,5 @@
--- The nine control values of a triangle in the order ck, cn, cm of P, of Q and of T, and document 01's points as expressions: in this order up and
--- down triangles and all three corners read the same.
+-- The nine control values of a triangle in the order ck, cn, cm of P, of Q and of T, and document 01's points as
+-- expressions: in this order up and down triangles and all three corners read the same.
 use mathlib.Core.Path.{_≡_, refl}
 use mathlib.Core.Bool.{Bool, true, false, cond}
 use mathlib.Core.List.{List, [], _∷_}

@@ -60,7 +60,8 @@ value-size net w i j down l e x h P k =
     let t = triangleAt i j down in
     field-size net w (corner t P) (corners-fine net w t e P) (corner-ends net w i j l down P) k x h
 
--- 'one neighbour is P + ek, the other P - em; n is the third index': the next corner is P + ek and the previous one P - em, in both triangles
+-- 'one neighbour is P + ek, the other P - em; n is the third index': the next corner is P + ek and the previous one P -
+-- em, in both triangles
 pub back : (n : ℕ) → pos n ≡ pos (n + 1) +ℤ negsuc 0
 back n = identity (var 0) (var 0 ⊕ lit (pos 1) ⊕ lit (negsuc 0)) (pos n ∷ []) refl
 
@@ -79,7 +80,8 @@ steps-agree i j true one = (back i, refl, stays (i + 1), refl)
 steps-agree i j true two = (refl, stays (j + 1), refl, back j)
 steps-agree i j true three = (stays (i + 1), back j, back i, stays (j + 1))
 
--- k, m and n are the three indices: their ranks are 0, 1 and 2 in some order, since they add up to 3 and their squares to 5
+-- k, m and n are the three indices: their ranks are 0, 1 and 2 in some order, since they add up to 3 and their squares
+-- to 5
 pub indices-differ : (down : Bool) (P : Index) →
     (let k = rank (indexK down P) in
     let m = rank (indexM down P) in

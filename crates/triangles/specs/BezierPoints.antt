@@ -1,5 +1,5 @@
--- Document 01, "Bézier net": the points s, u, v, r, m and z. A Bézier point is written in one coordinate, of the nine control values of a triangle's
--- corners. Each definition says the factor that makes it whole.
+-- Document 01, "Bézier net": the points s, u, v, r, m and z. A Bézier point is written in one coordinate, of the nine
+-- control values of a triangle's corners. Each definition says the factor that makes it whole.
 use mathlib.Core.Path.{_≡_, refl}
 use mathlib.Core.Bool.{Bool, true, false, cond}
 use mathlib.Core.List.{List, [], _∷_}
@@ -20,8 +20,9 @@ controlList c =
     ∷ c two one ∷ c two two ∷ c two three
     ∷ c three one ∷ c three two ∷ c three three ∷ []
 
--- 'For corner P of a triangle, one neighbour is P + ek, the other P - em; n is the third index.' The neighbour P + ek is the next corner and
--- P - em the previous one, in up and in down triangles (`steps-agree` in proofs/Corners.antt); `down` says which triangle.
+-- 'For corner P of a triangle, one neighbour is P + ek, the other P - em; n is the third index.' The neighbour P + ek
+-- is the next corner and P - em the previous one, in up and in down triangles (`steps-agree` in proofs/Corners.antt);
+-- `down` says which triangle.
 abbrev pub indexK : Bool → Index → Index
 indexK false P = P
 indexK true one = two
@@ -55,7 +56,8 @@ sixU down c P Q =
 abbrev pub threeV : Bool → Controls → Index → ℤ
 threeV down c P = pos 2 *ℤ c P (indexK down P) +ℤ c P (indexN down P)
 
--- the six kinds of points times 36: s, u and v of a corner; r = (uP + uQ)/2 and m = (vP + vQ)/2 of an edge; z = (v1 + v2 + v3)/3
+-- the six kinds of points times 36: s, u and v of a corner; r = (uP + uQ)/2 and m = (vP + vQ)/2 of an edge; z = (v1 +
+-- v2 + v3)/3
 abbrev pub pointS : Controls → Index → ℤ
 pointS c P = pos 12 *ℤ threeS c P
 
@@ -74,8 +76,8 @@ pointM down c P Q = pos 6 *ℤ (threeV down c P +ℤ threeV down c Q)
 abbrev pub pointZ : Bool → Controls → ℤ
 pointZ down c = pos 4 *ℤ (threeV down c one +ℤ threeV down c two +ℤ threeV down c three)
 
--- worked cases: in the up triangle of cell (0, 0), corner 1 = (0, 0) has (1, 0) = P + e1 and (0, 1) = P - e3, so k, m, n are 1, 3, 2; in the down
--- triangle corner 1 = (1, 0) has (0, 1) = P + e2 and (1, 1) = P - e3
+-- worked cases: in the up triangle of cell (0, 0), corner 1 = (0, 0) has (1, 0) = P + e1 and (0, 1) = P - e3, so k, m,
+-- n are 1, 3, 2; in the down triangle corner 1 = (1, 0) has (0, 1) = P + e2 and (1, 1) = P - e3
 first-corners :
     (indexK false one ≡ one) × (indexM false one ≡ three) × (indexN false one ≡ two)
     × (indexK true one ≡ two) × (indexM true one ≡ three) × (indexN true one ≡ one)

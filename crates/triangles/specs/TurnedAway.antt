@@ -1,4 +1,5 @@
--- Document 01, "Turned away": 3 of a triangle, 'Points and Bézier nets test only their triangle's nine control points for 3'.
+-- Document 01, "Turned away": 3 of a triangle, 'Points and Bézier nets test only their triangle's nine control points
+-- for 3'.
 use mathlib.Core.Bool.{Bool, _||_}
 use mathlib.Core.List.{List}
 use Prim.Native.Nat.{ℕ}

@@ -1,5 +1,5 @@
-// The control triangles of a triangle's three corners: their range, loading them, their order, and their nine values in one coordinate. For `bezier` and
-// `points`, which have refused every triangle that is not in the net; none of these is exported.
+// The control triangles of a triangle's three corners: their range, loading them, their order, and their nine values in
+// one coordinate. For `bezier` and `surface`, which have refused every triangle that is not in the net.
 use net::load;
 use net::vertex_beyond;
 ghost use mathlib.Core.Path.{_≡_};

@@ -95,7 +95,8 @@ module _ {A : Type 0} (net : List ℤ) (w h p q : ℕ) (out result : List A) whe
     when-refused n (over result out) out (λ z. still-refused (ltb (length out) 3) m (λ y. k (sym e ∙ y)) (sym r ∙ z)),
   )
 
--- an answer with values that go into an output of their own: what the export answers, and what stands in its two outputs
+-- an answer with values that go into an output of their own: what the export answers, and what stands in its two
+-- outputs
 module _ {A : Type 0} (r : ℕ) (values counts : List ℕ) (result out : List A) where
   pub exported : {l m : List ℕ} {o : List A} → _≡_ {A = ℕ × List ℕ} (0, l) (r, cond (accepted r) values []) → length values ≤ length counts →
       m ≡ sets counts 0 l → o ≡ outputAfter r result out →

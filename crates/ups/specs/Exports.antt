@@ -1,5 +1,5 @@
--- The calls of document 01 for callers in C and Rust: an answer is document 01's number, 0 where the call is accepted, and a result goes into a
--- lent output, in whose place document 01's order has 5.
+-- The calls of document 01 for callers in C and Rust: an answer is document 01's number, 0 where the call is accepted,
+-- and a result goes into a lent output, in whose place document 01's order has 5.
 use mathlib.Core.Bool.{Bool, cond, _||_}
 use mathlib.Core.List.{List, [], _∷_}
 use Prim.Native.Nat.{ℕ}

@@ -1,5 +1,5 @@
-// The static library: the calls of document 01 for C and Rust. A slice is a pointer and then a length; 0 is accepted, another number refuses. As in Rust, a slice that
-// is lent to be written overlaps no other.
+// The static library: the calls of document 01 for C and Rust. A slice is a pointer and then a length; 0 is accepted,
+// another number refuses. As in Rust, a slice that is lent to be written overlaps no other.
 use bezier::Answer;
 use bezier::bezier_net;
 use net::bad_size;

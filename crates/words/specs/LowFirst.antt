@@ -1,5 +1,5 @@
--- Words with their bytes the other way round, the first byte lowest. The code goes through these: four bytes in this order are loaded and stored
--- in one piece, and the other order is then one turn of the word.
+-- Words with their bytes the other way round, the first byte lowest. The code goes through these: four bytes in this
+-- order are loaded and stored in one piece, and the other order is then one turn of the word.
 use mathlib.Core.Path.{_≡_, refl}
 use mathlib.Core.List.{List, [], _∷_}
 use Prim.Native.Nat.{ℕ, _+_, _*_, _/_, _%_}

@@ -1,4 +1,5 @@
--- Document 01, "Net file": a word's kind and payload, its bytes, the file of a net, and what stands in the bytes of a file.
+-- Document 01, "Net file": a word's kind and payload, its bytes, the file of a net, and what stands in the bytes of a
+-- file.
 use mathlib.Core.Path.{_≡_, refl}
 use mathlib.Core.Bool.{cond}
 use mathlib.Core.List.{List, [], _∷_, _++_}
@@ -59,8 +60,8 @@ firstWord bytes = getD bytes 0 0 * 16777216 + getD bytes 1 0 * 65536 + getD byte
 abbrev pub points : ℕ → ℕ → ℕ
 points w h = 3 * (w * h)
 
--- a control point of a file has so many words, x, y, z, and so many bytes; two words stand before the first; and where the n-th begins. A net's
--- record has names of its own.
+-- a control point of a file has so many words, x, y, z, and so many bytes; two words stand before the first; and where
+-- the n-th begins. A net's record has names of its own.
 abbrev pub pointWords : ℕ
 pointWords = 3
 
@@ -121,7 +122,8 @@ fileNumbers file = runs (points (fileWidth file) (fileHeight file)) (λ n. first
 abbrev pub AllBytes : List ℕ → Type 0
 AllBytes file = (i : ℕ) → getD file i 0 < 256
 
--- ---- worked cases: a height word of 17, both ways; -1 and the limits of 28 bits; the word of y = -2; sizes and where control point 5 begins; the file of 2 by 3 with the numbers -1 to -54
+-- worked cases: a height word of 17, both ways; -1 and the limits of 28 bits; the word of y = -2; sizes and where
+-- control point 5 begins; the file of 2 by 3 with the numbers -1 to -54
 
 seventeen : (wordBytes (word heightKind 17) ≡ 32 ∷ 0 ∷ 0 ∷ 17 ∷ []) × (firstWord (32 ∷ 0 ∷ 0 ∷ 17 ∷ 99 ∷ []) ≡ word heightKind 17)
 unfolding wordBytes firstWord

@@ -59,8 +59,8 @@ pub fn parse_word(left: &[u8], kind: u32) -> Parsed
     }
 }
 
-// The number of a payload. What is at least half of 2^28 comes round to below half of it, and then below zero. For the reader, which takes the payload
-// from a word.
+// The number of a payload. What is at least half of 2^28 comes round to below half of it, and then below zero. For the
+// reader, which takes the payload from a word.
 pub fn signed_number(p: u32) -> i32
     requires { ⌜ p < 268435456 ⌝ }
     ensures { λ r. ⌜ r ≡ signed p ⌝ }
@@ -106,7 +106,8 @@ pub fn store_word(kind: u32, payload: u32, at: usize, out: &mut [u8])
     store_low_first(turn(v), at, out);
 }
 
-// The bytes of a number's word, stored from a place on. For the writer, which has refused every number beyond its range too.
+// The bytes of a number's word, stored from a place on. For the writer, which has refused every number beyond its range
+// too.
 pub fn store_number(kind: u32, z: i32, at: usize, out: &mut [u8])
     requires { ⌜ (kind < 16) × (natAbs z ≤ 16777216) × (at + 4 ≤ length (now out)) ⌝ }
     ensures { λ r. ⌜ now (out .exit) ≡ sets (now (out .entry)) at (numberBytes kind z) ⌝ }

@@ -1,4 +1,5 @@
-// The writer: nothing is stored before it is known that nothing is refused. What the inner functions ask is met by those below them in this file.
+// The writer: nothing is stored before it is known that nothing is refused. What the inner functions ask is met by
+// those below them in this file.
 use crate::answers::WriteAnswer;
 use net::POINT_STRIDE;
 use net::STRIDE;
@@ -88,7 +89,8 @@ fn store_file(net: &[i32], w: usize, h: usize, out: &mut [u8])
     store_word(6, 0, HEAD_SIZE + POINT_SIZE * n, out);
 }
 
-// The same as `write`, for the crates above: `short` is whether another output that they were lent is too short, which is 5 too.
+// The same as `write`, for the crates above: `short` is whether another output that they were lent is too short, which
+// is 5 too.
 pub fn write_with(net: &[i32], w: usize, h: usize, short: bool, out: &mut [u8]) -> WriteAnswer
     ensures { λ r. ⌜ writeTold r ≡ writeAnswerWith (now (net .entry)) w h (short || noRoom w h (length (now (out .entry)))) ⌝ }
     ensures { λ r. ⌜ now (out .exit) ≡ writeOutputWith (now (net .entry)) w h (short || noRoom w h (length (now (out .entry)))) (now (out .entry)) ⌝ }

@@ -1,5 +1,5 @@
--- `exact::rounding::round_quotient` meets its contract: its sums and products stay within 64 bits, so they are exact, and the floor of them is
--- the definition.
+-- `exact::rounding::round_quotient` meets its contract: its sums and products stay within 64 bits, so they are exact,
+-- and the floor of them is the definition.
 use mathlib.Core.Path.{sym, _∙_, ap, subst}
 use mathlib.Core.List.{List, [], _∷_}
 use Prim.Native.Nat.{_*_, _<_}

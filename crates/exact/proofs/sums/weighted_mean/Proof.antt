@@ -1,4 +1,5 @@
--- `exact::sums::weighted_mean` meets its contract: what the sum ensures meets what the rounding requires, and the two equations join.
+-- `exact::sums::weighted_mean` meets its contract: what the sum ensures meets what the rounding requires, and the two
+-- equations join.
 use mathlib.Core.Path.{_∙_, ap}
 use lib.IntN.{ℤ}
 use mir.Facts.{toZ-ofZ}

@@ -1,5 +1,5 @@
--- `exact::sums::weighted_sum` meets its contract. The loop's invariant: the sum so far and the weighted sum of the rest are the whole sum,
--- and the sum so far is at most 2 ^ 57 in size for each term.
+-- `exact::sums::weighted_sum` meets its contract. The loop's invariant: the sum so far and the weighted sum of the rest
+-- are the whole sum, and the sum so far is at most 2 ^ 57 in size for each term.
 use mathlib.Core.Path.{_≡_, refl, sym, _∙_, ap}
 use mathlib.Core.List.{List, [], _∷_}
 use Prim.Native.Nat.{ℕ, _+_, _-_, _*_, _^_, _≤_}

@@ -1,4 +1,5 @@
--- `listing_text::lines::store_point_line` meets its contract: five numbers, one after the other, each with the byte that ends it.
+-- `listing_text::lines::store_point_line` meets its contract: five numbers, one after the other, each with the byte
+-- that ends it.
 use mathlib.Core.Path.{_≡_, ap, _∙_}
 use mathlib.Core.List.{List, _++_}
 use Prim.Native.Nat.{ℕ, _+_, _≤_}

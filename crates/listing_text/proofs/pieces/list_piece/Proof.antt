@@ -1,4 +1,5 @@
--- `listing_text::pieces::list_piece` meets its contract: the first line, or that of vertex n - 1, whose point is not refused.
+-- `listing_text::pieces::list_piece` meets its contract: the first line, or that of vertex n - 1, whose point is not
+-- refused.
 use mathlib.Core.Path.{_≡_, sym, ap, _∙_}
 use mathlib.Core.List.{List}
 use Prim.Native.Nat.{ℕ, _-_, _*_, _/_, _%_, _^_, _≤_, _<_}

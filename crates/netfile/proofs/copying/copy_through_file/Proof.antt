@@ -1,4 +1,5 @@
--- `netfile::copying::copy_through_file` meets its contract: what is read is the part that was written, which reads back to the net.
+-- `netfile::copying::copy_through_file` meets its contract: what is read is the part that was written, which reads back
+-- to the net.
 use mathlib.Core.Path.{_≡_, sym, ap, _∙_}
 use mathlib.Core.Bool.{Bool, _||_}
 use mathlib.Core.List.{List}
