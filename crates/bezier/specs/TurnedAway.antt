@@ -27,11 +27,11 @@ bezierRefusal net w h i j down room =
 
 -- worked cases: a missing triangle, and a number beyond the range at a vertex of the down triangle, with and without
 -- room
-abbrev noughts : List ℤ
-noughts = replicate (numbers 2 2) (pos 0)
+abbrev zeros : List ℤ
+zeros = replicate (numbers 2 2) (pos 0)
 
-bezier-examples :
-    (bezierRefusal (set noughts (numbers 2 2 - 1) (pos 16777217)) 2 2 0 0 true 57 ≡ 3)
-    × (bezierRefusal (set noughts (numbers 2 2 - 1) (pos 16777217)) 2 2 0 0 true 56 ≡ 5)
-    × (bezierRefusal noughts 2 2 1 0 false 57 ≡ 6)
-bezier-examples = (refl, refl, refl)
+examples :
+    (bezierRefusal (set zeros (numbers 2 2 - 1) (pos 16777217)) 2 2 0 0 true 57 ≡ 3)
+    × (bezierRefusal (set zeros (numbers 2 2 - 1) (pos 16777217)) 2 2 0 0 true 56 ≡ 5)
+    × (bezierRefusal zeros 2 2 1 0 false 57 ≡ 6)
+examples = (refl, refl, refl)

@@ -12,7 +12,7 @@ use Rattle.reader.specs.TurnedAway.{headFaults, readRefusal, shortFor}
 use Rattle.reader.specs.declared.answers.ReadAnswer.{ReadAnswer}
 use Rattle.reader.specs.declared.answers.ReadAnswer.the-variants as found
 
--- the width and the height
+-- document 01's number of an answer, 0 where nothing is refused, and its values: the width and the height
 abbrev pub readTold : ReadAnswer → ℕ × List ℕ
 readTold (found.Size w h) = (0, w ∷ h ∷ [])
 readTold (found.Refused n) = (n, [])

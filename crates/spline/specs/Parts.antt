@@ -35,6 +35,6 @@ partRows false =
     ∷ (pos 0 ∷ pos 0 ∷ pos 0 ∷ pos 0 ∷ pos 0 ∷ pos 4 ∷ [])
     ∷ (pos 0 ∷ pos 0 ∷ pos 0 ∷ pos 0 ∷ pos 0 ∷ pos 0 ∷ []) ∷ []
 
--- 36·1024² times the factor of each of the nine control points in the exact point
+-- 36·D² times the factor of each of the nine control points in the exact value at edge count D
 abbrev pub parts : Bool → ℕ → ℕ → ℕ → List ℤ
 parts ahead A B G = map (λ (row : List ℤ). weightedSum row (coefficients A B G)) (partRows ahead)

@@ -14,10 +14,6 @@ use Rattle.steps.specs.RefinedNet.{numbersAfter}
 abbrev pub UnchangedFrom : ℕ → List ℤ → List ℤ → Type 0
 UnchangedFrom n before after = (length after ≡ length before) × (drop n after ≡ drop n before)
 
--- worked case: of five numbers the first two have changed
-unchanged-from : UnchangedFrom 2 (pos 1 ∷ pos 2 ∷ pos 3 ∷ pos 4 ∷ pos 5 ∷ []) (pos 9 ∷ pos 9 ∷ pos 3 ∷ pos 4 ∷ pos 5 ∷ [])
-unchanged-from = (refl, refl)
-
 -- a size and a number of steps that 1 and 4 do not refuse
 pub record Depth (w h k : ℕ) : Type 0 where
   pub few : k ≤ 6
@@ -42,3 +38,7 @@ nine-of-ten :
     threePoints (replicate 10 (pos 0)) 0 ((pos 1 ∷ pos 2 ∷ pos 3 ∷ []) ∷ (pos 4 ∷ pos 5 ∷ pos 6 ∷ []) ∷ (pos 7 ∷ pos 8 ∷ pos 9 ∷ []) ∷ [])
     ≡ pos 1 ∷ pos 2 ∷ pos 3 ∷ pos 4 ∷ pos 5 ∷ pos 6 ∷ pos 7 ∷ pos 8 ∷ pos 9 ∷ pos 0 ∷ []
 nine-of-ten = refl
+
+-- of five numbers the first two have changed
+unchanged-from : UnchangedFrom 2 (pos 1 ∷ pos 2 ∷ pos 3 ∷ pos 4 ∷ pos 5 ∷ []) (pos 9 ∷ pos 9 ∷ pos 3 ∷ pos 4 ∷ pos 5 ∷ [])
+unchanged-from = (refl, refl)

@@ -10,6 +10,7 @@ use Rattle.places.specs.Places.{chosen}
 use Rattle.places.specs.TurnedAway.{noPlace}
 use Rattle.triangles.specs.TurnedAway.{triangleBeyond}
 
+-- 3 looks at the triangle that is chosen for the place
 abbrev pub pointRefusal : List ℤ → ℕ → ℕ → ℕ → ℕ → ℕ
 pointRefusal net w h p q =
     firstFault

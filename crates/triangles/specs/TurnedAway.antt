@@ -1,10 +1,12 @@
 -- Document 01, "Turned away": 3 of a triangle, 'Points and Bézier nets test only their triangle's nine control points
 -- for 3'.
-use mathlib.Core.Bool.{Bool, _||_}
+use mathlib.Core.Path.{_≡_, refl}
+use mathlib.Core.Bool.{Bool, true, false, _||_}
 use mathlib.Core.List.{List}
-use Prim.Native.Nat.{ℕ}
-use lib.IntN.{ℤ}
-use Rattle.net.specs.Net.{one, two, three, Triangle, corner, vertexNumbers}
+use Prim.Native.Nat.{ℕ, _-_}
+use lib.IntN.{ℤ, pos}
+use lib.ListN.{replicate, set}
+use Rattle.net.specs.Net.{one, two, three, Triangle, triangleAt, corner, numbers, vertexNumbers}
 use Rattle.net.specs.TurnedAway.{anyBeyond}
 
 -- 3: a number of the triangle's nine control points outside the net range
@@ -12,3 +14,14 @@ abbrev pub triangleBeyond : List ℤ → ℕ → Triangle → Bool
 triangleBeyond net w t =
     anyBeyond (vertexNumbers net w (corner t one))
     || (anyBeyond (vertexNumbers net w (corner t two)) || anyBeyond (vertexNumbers net w (corner t three)))
+
+-- worked cases: of a net of 2 by 2 whose last number, of vertex (1, 1), is beyond the range, and of one whose first is
+abbrev zeros : List ℤ
+zeros = replicate (numbers 2 2) (pos 0)
+
+examples :
+    (triangleBeyond (set zeros (numbers 2 2 - 1) (pos 16777217)) 2 (triangleAt 0 0 true) ≡ true)
+    × (triangleBeyond (set zeros (numbers 2 2 - 1) (pos 16777217)) 2 (triangleAt 0 0 false) ≡ false)
+    × (triangleBeyond (set zeros 0 (pos 16777217)) 2 (triangleAt 0 0 true) ≡ false)
+    × (triangleBeyond (set zeros 0 (pos 16777217)) 2 (triangleAt 0 0 false) ≡ true)
+examples = (refl, refl, refl, refl)

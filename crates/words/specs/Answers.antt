@@ -7,7 +7,7 @@ use Rattle.net.specs.TurnedAway.{accepted}
 use Rattle.words.specs.declared.words.Parsed.{Parsed}
 use Rattle.words.specs.declared.words.Parsed.the-variants as parsed
 
--- the payload of a word
+-- document 01's number of an answer, 0 where nothing is refused, and its value: the payload of the word
 abbrev pub wordTold : Parsed → ℕ × List ℕ
 wordTold (parsed.Payload p) = (0, p ∷ [])
 wordTold (parsed.Refused n) = (n, [])
