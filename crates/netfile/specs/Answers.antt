@@ -14,7 +14,8 @@ use Rattle.writer.specs.TurnedAway.{noRoom, writeRefusal}
 abbrev pub copyRefusal : List ℤ → ℕ → ℕ → List ℕ → List ℤ → ℕ
 copyRefusal net w h out back = writeRefusal net w h (ltb (length back) (numbers w h) || noRoom w h (length out))
 
--- worked cases: of a net of 2 by 2, with a byte too few for the file, with a number too few to read into, and with neither
+-- worked cases: of a net of 2 by 2, with a byte too few for the file, with a number too few to read into, and with
+-- neither
 abbrev zeros : List ℤ
 zeros = replicate (numbers 2 2) (pos 0)
 

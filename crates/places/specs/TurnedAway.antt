@@ -8,8 +8,8 @@ use lib.Dec.{ltb}
 abbrev pub noPlace : ℕ → ℕ → ℕ → ℕ → ℕ → Bool
 noPlace D w h p q = ltb (D * (w - 1)) p || ltb (D * (h - 1)) q
 
--- worked cases: document 01's example of 6 and the place p = 1,024 at w = 2 that is accepted; the last row of a height of
--- 3, and a place above it; at edge count 4
+-- worked cases: document 01's example of 6 and the place p = 1,024 at w = 2 that is accepted; the last row of a height
+-- of 3, and a place above it; at edge count 4
 examples :
     (noPlace 1024 2 2 1025 0 ≡ true)
     × (noPlace 1024 2 2 1024 0 ≡ false)

@@ -21,7 +21,7 @@ ghost use lib.ListN.{length};
 ghost use Rattle.exact.specs.Filling.{over, runs};
 ghost use Rattle.net.specs.Net.{numbers, pointStride};
 ghost use Rattle.net.specs.TurnedAway.{badSize, firstFault};
-ghost use Rattle.words.specs.NetFile.{payloadOf, firstWord, firstPoint, fromPoint, headSize, pointSize};
+ghost use Rattle.words.specs.NetFile.{payloadOf, firstWord, firstPoint, fromPoint, headSize, pointSize, pointPlace};
 ghost use Rattle.words.specs.Answers.{wordTold, answer};
 ghost use Rattle.reader.specs.TurnedAway.{sideFaults, numberFaults, pointFaults, endFaults, bodyFaults, shortFor};
 ghost use Rattle.reader.specs.Answers.{readTold, headAnswer, readAnswerWith, readNetWith, readAnswer, readNet};
@@ -107,7 +107,7 @@ fn point_refusal(left: &[u8]) -> u32
 // The same of n control points whose words are all there. A part of twelve bytes at a time: its length is known, so
 // that no length is tested.
 fn whole_points_refusal(file: &[u8], n: usize) -> u32
-    requires { ⌜ headSize + pointSize * n ≤ length (now file) ⌝ }
+    requires { ⌜ pointPlace n ≤ length (now file) ⌝ }
     ensures { λ r. ⌜ r ≡ firstFault (runs n (λ i. pointFaults (fromPoint (now (file .entry)) i))) ⌝ }
 {
     let mut i = 0;
@@ -189,7 +189,7 @@ fn first_point(bytes: &[u8]) -> [i32; 3]
 
 // The numbers of n control points over the front of the lent net.
 fn load_points(file: &[u8], n: usize, net: &mut [i32])
-    requires { ⌜ (headSize + pointSize * n ≤ length (now file)) × (pointStride * n ≤ length (now net)) ⌝ }
+    requires { ⌜ (pointPlace n ≤ length (now file)) × (pointStride * n ≤ length (now net)) ⌝ }
     ensures { λ r. ⌜ now (net .exit) ≡ over (runs n (λ i. firstPoint (fromPoint (now (file .entry)) i))) (now (net .entry)) ⌝ }
 {
     let mut i = 0;

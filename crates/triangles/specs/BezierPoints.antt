@@ -82,3 +82,29 @@ first-corners :
     (indexK false one ≡ one) × (indexM false one ≡ three) × (indexN false one ≡ two)
     × (indexK true one ≡ two) × (indexM true one ≡ three) × (indexN true one ≡ one)
 first-corners = (refl, refl, refl, refl, refl, refl)
+
+-- and the points of nine control values that differ, times 36: of the up triangle, by document 01's sums, s of corner 1
+-- is 38/3, u12 50/6, u13 13/2, v1 17/3, r12 119/12, m12 28/3 and z 115/9; of the down triangle, u12 is 65/6 and v2 is
+-- 9/3
+abbrev values : Controls
+values one one = pos 4
+values one two = pos 9
+values one three = pos 25
+values two one = pos 1
+values two two = pos 16
+values two three = pos 7
+values three one = pos 37
+values three two = pos 2
+values three three = pos 11
+
+points-of-values :
+    (pointS values one ≡ pos 456)
+    × (pointU false values one two ≡ pos 300)
+    × (pointU false values one three ≡ pos 234)
+    × (pointV false values one ≡ pos 204)
+    × (pointR false values one two ≡ pos 357)
+    × (pointM false values one two ≡ pos 336)
+    × (pointZ false values ≡ pos 460)
+    × (pointU true values one two ≡ pos 390)
+    × (pointV true values two ≡ pos 108)
+points-of-values = (refl, refl, refl, refl, refl, refl, refl, refl, refl)

@@ -18,7 +18,7 @@ ghost use lib.Seq.{sets};
 ghost use Rattle.exact.specs.Filling.{over, runs};
 ghost use Rattle.net.specs.Net.{numbers, pointStride};
 ghost use Rattle.net.specs.TurnedAway.{badSize, anyBeyond};
-ghost use Rattle.words.specs.NetFile.{headSize, pointSize, pointBytes, netFile, fileSize};
+ghost use Rattle.words.specs.NetFile.{headSize, pointSize, pointPlace, pointBytes, netFile, fileSize};
 ghost use Rattle.writer.specs.TurnedAway.{noRoom, writeRefusal};
 ghost use Rattle.writer.specs.Answers.{writeTold, writeAnswerWith, writeOutputWith, writeAnswer, writeOutput};
 
@@ -67,7 +67,7 @@ fn store_numbers(net: &[i32], from: usize, at: usize, out: &mut [u8])
 
 // The words of the first n control points, after two words.
 fn store_points(net: &[i32], n: usize, out: &mut [u8])
-    requires { ⌜ (pointStride * n ≤ length (now net)) × (headSize + pointSize * n ≤ length (now out)) × (anyBeyond (now net) ≡ false) ⌝ }
+    requires { ⌜ (pointStride * n ≤ length (now net)) × (pointPlace n ≤ length (now out)) × (anyBeyond (now net) ≡ false) ⌝ }
     ensures { λ r. ⌜ now (out .exit) ≡ sets (now (out .entry)) headSize (runs n (λ i. pointBytes (now (net .entry)) (pointStride * i))) ⌝ }
 {
     let mut i = 0;
