@@ -130,8 +130,10 @@ module _ (s : Index → ℕ) (c : Controls) where
     squares (S middle two - S middle three) (s one - s two) (omega arith),
   )
 
-  -- one identity for each child of an up and of a down triangle; the order of the shares does not matter
-  same-value : (down : Bool) (k : Child) →
+  -- one identity for each child of an up and of a down triangle; the order of the shares does not matter. Each is a
+  -- lemma of its own: as clauses of one proof they are checked three times as long.
+  abbrev SameValue : Bool → Child → Type 0
+  SameValue down k =
       weightedSum
       (byShares (s one) (s two) (s three) (square (s one - s two)) (square (s one - s three)) (square (s two - s three)))
       (inForm (childDown down k) (childControls down k c) o123)
@@ -139,15 +141,48 @@ module _ (s : Index → ℕ) (c : Controls) where
       *ℤ weightedSum
       (byShares (S k one) (S k two) (S k three) (difference k one) (difference k two) (difference k three))
       (inForm down c o123)
+
+  up-one : SameValue false (at one)
   unfolding weightedSum
-  same-value false (at one) = identity (childE false (at one)) (parentE false (at one)) (environment s c) refl
-  same-value false (at two) = identity (childE false (at two)) (parentE false (at two)) (environment s c) refl
-  same-value false (at three) = identity (childE false (at three)) (parentE false (at three)) (environment s c) refl
-  same-value false middle = identity (childE false middle) (parentE false middle) (environment s c) refl
-  same-value true (at one) = identity (childE true (at one)) (parentE true (at one)) (environment s c) refl
-  same-value true (at two) = identity (childE true (at two)) (parentE true (at two)) (environment s c) refl
-  same-value true (at three) = identity (childE true (at three)) (parentE true (at three)) (environment s c) refl
-  same-value true middle = identity (childE true middle) (parentE true middle) (environment s c) refl
+  up-one = identity (childE false (at one)) (parentE false (at one)) (environment s c) refl
+
+  up-two : SameValue false (at two)
+  unfolding weightedSum
+  up-two = identity (childE false (at two)) (parentE false (at two)) (environment s c) refl
+
+  up-three : SameValue false (at three)
+  unfolding weightedSum
+  up-three = identity (childE false (at three)) (parentE false (at three)) (environment s c) refl
+
+  up-middle : SameValue false middle
+  unfolding weightedSum
+  up-middle = identity (childE false middle) (parentE false middle) (environment s c) refl
+
+  down-one : SameValue true (at one)
+  unfolding weightedSum
+  down-one = identity (childE true (at one)) (parentE true (at one)) (environment s c) refl
+
+  down-two : SameValue true (at two)
+  unfolding weightedSum
+  down-two = identity (childE true (at two)) (parentE true (at two)) (environment s c) refl
+
+  down-three : SameValue true (at three)
+  unfolding weightedSum
+  down-three = identity (childE true (at three)) (parentE true (at three)) (environment s c) refl
+
+  down-middle : SameValue true middle
+  unfolding weightedSum
+  down-middle = identity (childE true middle) (parentE true middle) (environment s c) refl
+
+  same-value : (down : Bool) (k : Child) → SameValue down k
+  same-value false (at one) = up-one
+  same-value false (at two) = up-two
+  same-value false (at three) = up-three
+  same-value false middle = up-middle
+  same-value true (at one) = down-one
+  same-value true (at two) = down-two
+  same-value true (at three) = down-three
+  same-value true middle = down-middle
 
   child-value : (down : Bool) (k : Child) →
       weightedSum (controlWeights (childDown down k) s) (controlList (childControls down k c))
