@@ -17,7 +17,7 @@ use Rattle.triangles.specs.TurnedAway.{triangleBeyond}
 use Rattle.triangles.proofs.Corners.{corner-before}
 
 module _ (net : List ℤ) (w h : ℕ) (t : Triangle) (g : InGrid w h (t .column) (t .row)) where
-  pub ends : (P : Index) → start w (corner t P) + stride ≤ numbers w h
+  ends : (P : Index) → start w (corner t P) + stride ≤ numbers w h
   ends P =
       let last = vertex-ends {w = w} {h = h} {i = t .column + 1} {j = t .row + 1} (g .column) (g .row) in
       omega (arith, corner-before w (t .column) (t .row) (g .column) (t .down) P, last)
