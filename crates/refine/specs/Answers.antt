@@ -5,6 +5,7 @@ use mathlib.Core.List.{List}
 use Prim.Native.Nat.{ℕ}
 use lib.IntN.{ℤ}
 use lib.ListN.{length}
+use Rattle.net.specs.Net.{numbers}
 use Rattle.net.specs.TurnedAway.{accepted, outputAfter}
 use Rattle.steps.specs.RefinedNet.{refinedNet, scratchNeed}
 use Rattle.refine.specs.TurnedAway.{tooShort, refineRefusal}
@@ -36,5 +37,5 @@ freeScratch refusal k w h = cond (accepted refusal) (scratchNeed k w h) 0
 told : (refineTold answer.Done ≡ (0, true)) × (refineTold (answer.Refused 4) ≡ (4, false))
 told = (refl, refl)
 
-free : (freeScratch 0 2 2 2 ≡ 81) × (freeScratch 5 2 2 2 ≡ 0) × (freeScratch 0 1 2 2 ≡ 0)
+free : (freeScratch 0 2 2 2 ≡ numbers 3 3) × (freeScratch 5 2 2 2 ≡ 0) × (freeScratch 0 1 2 2 ≡ 0)
 free = (refl, refl, refl)

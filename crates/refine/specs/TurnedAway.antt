@@ -36,7 +36,11 @@ refineRefusal net w h k short = firstFault (sizeFaults w h k ++ netFaults net w 
 depths : (tooDeep 18 2 6 ≡ true) × (tooDeep 17 17 6 ≡ false) × (tooDeep 2 2 7 ≡ true) × (tooDeep 2 2 18446744073709551615 ≡ true) × (tooDeep 2 514 1 ≡ true)
 depths = (refl, refl, refl, refl, refl)
 
-lengths : (tooShort 2 2 2 225 81 ≡ false) × (tooShort 2 2 2 224 81 ≡ true) × (tooShort 2 2 2 225 80 ≡ true) × (tooShort 2 2 1 81 0 ≡ false)
+lengths :
+    (tooShort 2 2 2 (numbers 5 5) (numbers 3 3) ≡ false)
+    × (tooShort 2 2 2 (numbers 5 5 - 1) (numbers 3 3) ≡ true)
+    × (tooShort 2 2 2 (numbers 5 5) (numbers 3 3 - 1) ≡ true)
+    × (tooShort 2 2 1 (numbers 3 3) 0 ≡ false)
 lengths = (refl, refl, refl, refl)
 
 abbrev tooLarge : List ℤ
