@@ -79,8 +79,8 @@ fn medians<const N: usize>(name: &str, passes: usize, mut versions: [Pass; N]) -
     for round in 0..ROUNDS {
         let mut sums = [0; N];
         // The version that goes first changes from round to round.
-        for turn in 0..N {
-            let version = (round + turn) % N;
+        for offset in 0..N {
+            let version = (round + offset) % N;
             let start = Instant::now();
             for _ in 0..passes {
                 sums[version] += black_box(versions[version]());
@@ -203,9 +203,9 @@ fn write_file(net: &[i32]) -> Vec<u8> {
     let kernel = Box::new(|| {
         let mut written = [0];
         let (at, count, to) = (net.as_ptr(), net.len(), out.as_mut_ptr());
-        let (w, h, told) = (FILE_SIDE, FILE_SIDE, written.as_mut_ptr());
+        let (w, h, count_to) = (FILE_SIDE, FILE_SIDE, written.as_mut_ptr());
         // SAFETY: the lengths are those of the net and of the two outputs.
-        let refusal = unsafe { raw::ups_write(at, count, w, h, to, len, told, 1) };
+        let refusal = unsafe { raw::ups_write(at, count, w, h, to, len, count_to, 1) };
         assert_eq!(refusal, 0);
         black_box(&out);
         written[0] as i64
@@ -231,9 +231,9 @@ fn read_file(file: &[u8], net: &[i32]) {
     let kernel = Box::new(|| {
         let mut size = [0; 2];
         let (at, count) = (file.as_ptr(), file.len());
-        let (to, told) = (out.as_mut_ptr(), size.as_mut_ptr());
+        let (to, size_to) = (out.as_mut_ptr(), size.as_mut_ptr());
         // SAFETY: the lengths are those of the file and of the two outputs.
-        let refusal = unsafe { raw::ups_read(at, count, to, len, told, 2) };
+        let refusal = unsafe { raw::ups_read(at, count, to, len, size_to, 2) };
         assert_eq!((refusal, size), (0, [FILE_SIDE as u64; 2]));
         black_box(&out);
         count as i64

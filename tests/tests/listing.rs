@@ -196,8 +196,8 @@ fn random_nets_wide_and_high() {
     .into_iter()
     .enumerate()
     {
-        for turn in 0..2 {
-            let file = random_file(&mut random, size, NUMBERS[(round + turn) % 4]);
+        for offset in 0..2 {
+            let file = random_file(&mut random, size, NUMBERS[(round + offset) % 4]);
             let fine = refinement::refined_size(size, 1).expect("a size");
             expect_listed(&file, fine);
         }

@@ -151,7 +151,7 @@ fn seven_each_truncation() {
     }
 }
 
-/// That the result has no room is told after the height word.
+/// That the result has no room is refused after the height word.
 #[test]
 fn seven_or_five_each_truncation_with_a_short_slice() {
     let file = file();
@@ -216,12 +216,12 @@ fn eight_each_number_left_out_or_doubled() {
 
 #[test]
 fn eight_where_the_size_does_not_fit_the_numbers() {
-    // More than any of the told sizes needs.
+    // More than any of the stated sizes needs.
     let room = record::numbers((4, 5)) + 20;
-    for (size, told) in [((2, 3), (2, 2)), ((2, 2), (2, 3)), ((4, 4), (4, 5))] {
+    for (size, stated) in [((2, 3), (2, 2)), ((2, 2), (2, 3)), ((4, 4), (4, 5))] {
         let mut words = netfile::words(&vec![0; record::numbers(size)], size);
-        words[0] = netfile::word(WIDTH, told.0);
-        words[1] = netfile::word(HEIGHT, told.1);
+        words[0] = netfile::word(WIDTH, stated.0);
+        words[1] = netfile::word(HEIGHT, stated.1);
         Reading::new(&netfile::bytes(&words), room).expect(8);
     }
 }

@@ -1,4 +1,4 @@
-//! Several faults of one file: the first in the order of the bytes is told.
+//! Several faults of one file: the first in the order of the bytes is answered.
 
 use ups_tests::call::Reading;
 use ups_tests::netfile;
@@ -77,7 +77,7 @@ fn payload_faults(word: usize) -> (u32, Vec<Fault>) {
     (refusal, payloads.into_iter().map(fault).collect())
 }
 
-/// All faults of a 2 by 2 file with their numbers, in the order in which they are told.
+/// All faults of a 2 by 2 file with their numbers, in the order in which they count.
 fn order() -> Vec<(u32, Vec<Fault>)> {
     let mut order = Vec::new();
     for word in 0..WORDS {

@@ -185,9 +185,9 @@ fn what_lay_there_before_does_not_matter() {
                     let refined = lent.refine(size, k, room).expect("accepted");
                     same(&refined, &expected, fine, &what);
                     let answer = lent.refined_point(size, k, place, room, 3 + extra);
-                    let (refined, told) = answer.expect("accepted");
+                    let (refined, answered) = answer.expect("accepted");
                     same(&refined, &expected, fine, &what);
-                    assert_eq!(told, point, "{what}");
+                    assert_eq!(answered, point, "{what}");
                 }
             }
         }

@@ -9,15 +9,15 @@ use lib.ListN.{length, getD}
 use borrow.Author.Tests.{ltb-false, eqb-true}
 use Rattle.exact.specs.Filling.{over, runs}
 use Rattle.net.specs.Net.{Triangle, triangleAt, numbers, field}
-use Rattle.net.specs.TurnedAway.{accepted, badSize, shortNet}
+use Rattle.net.specs.Refusals.{accepted, badSize, shortNet}
 use Rattle.net.proofs.Faults.{fault-none}
 use Rattle.net.proofs.Beyond.{cut, cond-where, cond-else, cut-short}
 use Rattle.places.proofs.Cells.{InGrid}
 use Rattle.triangles.specs.BezierPoints.{controlsOf}
-use Rattle.triangles.specs.TurnedAway.{triangleBeyond}
+use Rattle.triangles.specs.Refusals.{triangleBeyond}
 use Rattle.triangles.proofs.Beyond.{cut-controls, cut-triangle}
 use Rattle.bezier.specs.BezierNet.{bezierPoints, bezierNumbers}
-use Rattle.bezier.specs.TurnedAway.{noTriangle, bezierRefusal}
+use Rattle.bezier.specs.Refusals.{noTriangle, bezierRefusal}
 use Rattle.bezier.specs.Answers.{bezierOutput}
 use Rattle.bezier.proofs.BezierNets.{cell-in-grid}
 

@@ -11,18 +11,18 @@ use native.Mathlib.Omega.{arith}
 use Rattle.exact.specs.WeightedSum.{weightedSum, Within}
 use Rattle.exact.specs.Filling.{over, runs}
 use Rattle.net.specs.Net.{Triangle, triangleAt, field}
-use Rattle.net.specs.TurnedAway.{badSize, shortNet}
+use Rattle.net.specs.Refusals.{badSize, shortNet}
 use Rattle.net.proofs.Faults.{fault-none, when-accepted, when-refused, or-none}
 use Rattle.net.proofs.Places.{good-size}
 use Rattle.places.specs.Places.{o123}
 use Rattle.places.proofs.Cells.{InGrid}
 use Rattle.triangles.specs.BezierPoints.{controlsOf}
-use Rattle.triangles.specs.TurnedAway.{triangleBeyond}
-use Rattle.triangles.specs.Corners.{InNet, cornerControls, turned, valuesIn}
+use Rattle.triangles.specs.Refusals.{triangleBeyond}
+use Rattle.triangles.specs.Corners.{InNet, cornerControls, reorderedControls, valuesIn}
 use Rattle.triangles.proofs.Corners.{value-size, in-net}
 use Rattle.triangles.proofs.CornerForm.{inForm, form-values, loaded-form, form-within}
 use Rattle.bezier.specs.BezierNet.{bezierPoints, bezierNumbers}
-use Rattle.bezier.specs.TurnedAway.{noTriangle, bezierRefusal}
+use Rattle.bezier.specs.Refusals.{noTriangle, bezierRefusal}
 use Rattle.bezier.specs.Answers.{bezierAnswer, bezierOutput}
 use Rattle.bezier.specs.Weights.{bezierRows, threeAt}
 use Rattle.bezier.proofs.Weights.{points-by-rows}
@@ -65,12 +65,12 @@ good-triangle net w h i j down room e =
 abbrev pub formed : List ℤ → ℕ → Triangle → ℕ → List ℤ
 formed net w t x = inForm (t .down) (controlsOf (field net w x) t) o123
 
--- what the code reads of the loaded and turned control triangles
-pub turned-values : (net : List ℤ) (w : ℕ) (t : Triangle) {c d : List (List (List ℤ))} → c ≡ cornerControls net w t → d ≡ turned (t .down) c →
+-- what the code reads of the loaded and reordered control triangles
+pub reordered-values : (net : List ℤ) (w : ℕ) (t : Triangle) {c d : List (List (List ℤ))} → c ≡ cornerControls net w t → d ≡ reorderedControls (t .down) c →
     (x : ℕ) {values : List ℤ} → values ≡ valuesIn d x → values ≡ formed net w t x
-turned-values net w t ec ed x q =
+reordered-values net w t ec ed x q =
     q
-    ∙ ap (λ (d : List (List (List ℤ))). valuesIn d x) (ed ∙ ap (turned (t .down)) ec)
+    ∙ ap (λ (d : List (List (List ℤ))). valuesIn d x) (ed ∙ ap (reorderedControls (t .down)) ec)
     ∙ form-values (t .down) o123 (cornerControls net w t) x
     ∙ loaded-form net w t (t .down) o123 x
 

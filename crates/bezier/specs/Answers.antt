@@ -6,16 +6,16 @@ use Prim.Native.Nat.{ℕ}
 use lib.IntN.{ℤ}
 use lib.ListN.{length}
 use Rattle.net.specs.Net.{triangleAt}
-use Rattle.net.specs.TurnedAway.{accepted, outputAfter}
+use Rattle.net.specs.Refusals.{accepted, outputAfter}
 use Rattle.bezier.specs.BezierNet.{bezierNumbers}
-use Rattle.bezier.specs.TurnedAway.{bezierRefusal}
-use Rattle.bezier.specs.declared.answers.Answer.{Answer}
-use Rattle.bezier.specs.declared.answers.Answer.the-variants as answer
+use Rattle.bezier.specs.Refusals.{bezierRefusal}
+use Rattle.bezier.specs.declared.answers.BezierAnswer.{BezierAnswer}
+use Rattle.bezier.specs.declared.answers.BezierAnswer.the-variants as answer
 
 -- document 01's number of an answer, 0 where nothing is refused, and whether the call was carried out
-abbrev pub answerTold : Answer → ℕ × Bool
-answerTold answer.Done = (0, true)
-answerTold (answer.Refused n) = (n, false)
+abbrev pub bezierOutcome : BezierAnswer → ℕ × Bool
+bezierOutcome answer.Done = (0, true)
+bezierOutcome (answer.Refused n) = (n, false)
 
 -- what a Bézier net answers: the first fault, and that it is carried out exactly where there is none
 abbrev pub bezierAnswer : List ℤ → ℕ → ℕ → ℕ → ℕ → Bool → ℕ → ℕ × Bool
@@ -26,6 +26,6 @@ unfoldable pub bezierOutput : List ℤ → ℕ → ℕ → ℕ → ℕ → Bool 
 bezierOutput net w h i j down out =
     outputAfter (bezierRefusal net w h i j down (length out)) (bezierNumbers net w (triangleAt i j down)) out
 
--- worked cases: what answers tell
-answers-told : (answerTold answer.Done ≡ (0, true)) × (answerTold (answer.Refused 6) ≡ (6, false))
-answers-told = (refl, refl)
+-- worked cases: outcomes of answers
+outcomes : (bezierOutcome answer.Done ≡ (0, true)) × (bezierOutcome (answer.Refused 6) ≡ (6, false))
+outcomes = (refl, refl)

@@ -1,6 +1,6 @@
--- The definitions that contracts cite: the Bézier net, what is turned away, document 01's number of each answer, and
+-- The definitions that contracts cite: the Bézier net, the refusals, document 01's number of each answer, and
 -- the rows of weights.
 pub mod BezierNet
-pub mod TurnedAway
+pub mod Refusals
 pub mod Answers
 pub mod Weights

@@ -1,13 +1,13 @@
 // Bézier nets: the 19 points of a triangle times 36, as weighted sums of its nine control values.
-use crate::answers::Answer;
+use crate::answers::BezierAnswer;
 use exact::weighted_sum9;
 use net::bad_size;
 use net::short_net;
 use net::store_point;
 use triangles::coordinate_values;
 use triangles::load_triangle;
+use triangles::reorder_controls;
 use triangles::triangle_beyond;
-use triangles::turn;
 ghost use mathlib.Core.Path.{_≡_};
 ghost use mathlib.Core.Bool.{false};
 ghost use mathlib.Core.List.{map};
@@ -15,9 +15,9 @@ ghost use Prim.Native.Nat.{_≤_};
 ghost use lib.ListN.{length};
 ghost use Rattle.exact.specs.WeightedSum.{weightedSum, Within};
 ghost use Rattle.exact.specs.Filling.{over, runs};
-ghost use Rattle.net.specs.TurnedAway.{badSize};
-ghost use Rattle.bezier.specs.TurnedAway.{noTriangle, bezierRefusal};
-ghost use Rattle.bezier.specs.Answers.{answerTold, bezierAnswer, bezierOutput};
+ghost use Rattle.net.specs.Refusals.{badSize};
+ghost use Rattle.bezier.specs.Refusals.{noTriangle, bezierRefusal};
+ghost use Rattle.bezier.specs.Answers.{bezierOutcome, bezierAnswer, bezierOutput};
 ghost use Rattle.bezier.specs.Weights.{bezierRows, threeAt};
 
 // The 19 points times 36, in document 01's order and in one coordinate, of the values of ck, cn, cm at each corner. The
@@ -117,18 +117,18 @@ pub fn bezier_net(
     j: usize,
     down: bool,
     out: &mut [i32],
-) -> Answer
-    ensures { λ r. ⌜ answerTold r ≡ bezierAnswer (now (net .entry)) w h i j down (length (now (out .entry))) ⌝ }
+) -> BezierAnswer
+    ensures { λ r. ⌜ bezierOutcome r ≡ bezierAnswer (now (net .entry)) w h i j down (length (now (out .entry))) ⌝ }
     ensures { λ r. ⌜ now (out .exit) ≡ bezierOutput (now (net .entry)) w h i j down (now (out .entry)) ⌝ }
 {
     let refusal = bezier_refusal(net, w, h, i, j, down, out.len());
     if refusal != 0 {
-        return Answer::Refused(refusal);
+        return BezierAnswer::Refused(refusal);
     }
-    let c = turn(load_triangle(net, w, i, j, down), down);
+    let c = reorder_controls(load_triangle(net, w, i, j, down), down);
     let xs = ordinates(coordinate_values(c, 0));
     let ys = ordinates(coordinate_values(c, 1));
     let zs = ordinates(coordinate_values(c, 2));
     write_points(xs, ys, zs, out);
-    Answer::Done
+    BezierAnswer::Done
 }

@@ -2,5 +2,5 @@
 mod answers;
 mod bezier;
 
-pub use answers::Answer;
+pub use answers::BezierAnswer;
 pub use bezier::bezier_net;

@@ -1,5 +1,5 @@
 -- Demand 3 of the definitions: the laws of distance and range, at edge count 1,024, for our table and the fields of a
--- net that is taken.
+-- accepted net.
 use mathlib.Core.Path.{_≡_, refl, sym, subst}
 use mathlib.Core.Bool.{Bool, true, false, cond}
 use mathlib.Core.List.{List, [], _∷_}
@@ -14,7 +14,7 @@ use borrow.Author.Tests.{ltb-false}
 use Rattle.exact.specs.Rounding.{rounded}
 use Rattle.exact.proofs.Order.{≤ℤ-trans, ≤ℤ-total, size-low, size-high, size-between}
 use Rattle.net.specs.Net.{Index, one, two, three, vertexAt, Field, numbers, start, field, stride}
-use Rattle.net.specs.TurnedAway.{AcceptedNet}
+use Rattle.net.specs.Refusals.{AcceptedNet}
 use Rattle.net.proofs.Places.{good-size, vertex-ends, field-size}
 use Rattle.net.proofs.Ranges.{part-in-range}
 use Rattle.triangles.specs.BezierPoints.{Controls, controlsOf, controlList}

@@ -8,7 +8,7 @@ use lib.IntN.{ℤ, pos, negsuc, natAbs, _-ℤ_, _*ℤ_}
 use lib.Signed.{_≤ℤ_, leZ}
 use Rattle.exact.specs.Rounding.{rounded}
 use Rattle.net.specs.Net.{Triangle, Field, field}
-use Rattle.net.specs.TurnedAway.{AcceptedNet}
+use Rattle.net.specs.Refusals.{AcceptedNet}
 use Rattle.places.specs.Places.{OnGrid, LiesIn}
 use Rattle.triangles.specs.BezierPoints.{controlsOf, controlList}
 use Rattle.spline.specs.Spline.{spline}

@@ -10,7 +10,7 @@ use lib.Signed.{_≤ℤ_}
 use Rattle.exact.specs.Rounding.{rounded}
 use Rattle.exact.specs.WeightedSum.{weightedSum}
 use Rattle.net.specs.Net.{Index, Vertex, vertexAt, Triangle, triangleAt, corner, Field, field}
-use Rattle.net.specs.TurnedAway.{AcceptedNet}
+use Rattle.net.specs.Refusals.{AcceptedNet}
 use Rattle.places.specs.Places.{OnGrid, LiesIn}
 use Rattle.spline.specs.Spline.{spline}
 use Rattle.spline.specs.Shares.{OfNet}
@@ -87,7 +87,7 @@ NetStaysBetween =
     (T : Table) → passes T ≡ true → (m n : ℤ) (k w h : ℕ) (F : Field) → 2 ≤ w → 2 ≤ h → NetBetween m n w h F →
     NetBetween m n (sideAfter k w) (sideAfter k h) (steps (refinedBy T) k F)
 
--- refined numbers of a net that is taken stay in the net range (`refined-in-range`)
+-- refined numbers of an accepted net stay in the net range (`refined-in-range`)
 abbrev pub RefinedInRange : Type 0
 RefinedInRange =
     (T : Table) → passes T ≡ true → (net : List ℤ) (w h : ℕ) → AcceptedNet net w h → (k i j x : ℕ) → x < 3 → i < sideAfter k w → j < sideAfter k h →

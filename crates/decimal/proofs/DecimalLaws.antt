@@ -1,4 +1,4 @@
--- Decimal digits: the definition without its bound on turns, how many there are, and that they tell the number.
+-- Decimal digits: the definition without its fuel, how many there are, and that they denote the number.
 use mathlib.Core.Path.{_≡_, refl, sym, ap, subst, _∙_}
 use mathlib.Core.List.{List, [], _∷_, _++_}
 use Prim.Native.Nat.{ℕ, zero, suc, _+_, _-_, _*_, _/_, _%_, _^_, _≤_, _<_}
@@ -13,9 +13,9 @@ use borrow.Author.Tests.{ne-eqb}
 use Rattle.exact.proofs.Parts.{integers}
 use Rattle.net.proofs.Faults.{cond-false}
 use Rattle.decimal.specs.Decimal.{digit, digitsOf, decimal, signedDecimal}
-use Rattle.decimal.specs.Promises.{DecimalSteps, AllDigits, OnlyDigits, NoLeadingZero, toldAfter, signedTold, DigitsTell, TextTells}
+use Rattle.decimal.specs.Promises.{DecimalSteps, AllDigits, OnlyDigits, NoLeadingZero, valueAfter, signedValue, DigitsDenote, TextDenotes}
 
--- ---- the definition without turns
+-- ---- the definition without fuel
 
 -- any two bounds that are enough give the same digits
 digits-same : (s t n : ℕ) → n ≤ s → n ≤ t → digitsOf s n ≡ digitsOf t n
@@ -29,10 +29,10 @@ digits-same (suc s) (suc t) zero a b = refl
 digits-same (suc s) (suc t) (suc n) a b =
     ap (λ (l : List ℕ). l ++ (digit (suc n % 10) ∷ [])) (digits-same s t (suc n / 10) (omega (arith, a)) (omega (arith, b)))
 
-no-digits : (turns : ℕ) → digitsOf turns 0 ≡ []
+no-digits : (fuel : ℕ) → digitsOf fuel 0 ≡ []
 unfolding digitsOf
 no-digits zero = refl
-no-digits (suc turns) = refl
+no-digits (suc fuel) = refl
 
 pub decimal-low : (n : ℕ) → n < 10 → decimal n ≡ digit n ∷ []
 unfolding decimal digitsOf
@@ -95,21 +95,21 @@ unfolding signedDecimal
 signed-length (pos n) h = omega (arith, decimal-length 9 n h)
 signed-length (negsuc n) h = omega (arith, decimal-length 9 (suc n) h)
 
--- ---- what they tell
+-- ---- what they denote
 
-told-last : (xs : List ℕ) (front b : ℕ) → toldAfter front (xs ++ (b ∷ [])) ≡ 10 * toldAfter front xs + (b - 48)
-told-last [] front b = refl
-told-last (x ∷ xs) front b = told-last xs (10 * front + (x - 48)) b
+value-last : (xs : List ℕ) (front b : ℕ) → valueAfter front (xs ++ (b ∷ [])) ≡ 10 * valueAfter front xs + (b - 48)
+value-last [] front b = refl
+value-last (x ∷ xs) front b = value-last xs (10 * front + (x - 48)) b
 
-pub digits-tell : DigitsTell
-digits-tell = by-digits (λ n. toldAfter 0 (decimal n) ≡ n) low high
+pub digits-denote : DigitsDenote
+digits-denote = by-digits (λ n. valueAfter 0 (decimal n) ≡ n) low high
   where
-    low : (n : ℕ) → n < 10 → toldAfter 0 (decimal n) ≡ n
-    low n h = ap (toldAfter 0) (decimal-low n h) ∙ omega arith
+    low : (n : ℕ) → n < 10 → valueAfter 0 (decimal n) ≡ n
+    low n h = ap (valueAfter 0) (decimal-low n h) ∙ omega arith
 
-    high : (n : ℕ) → 10 ≤ n → toldAfter 0 (decimal (n / 10)) ≡ n / 10 → toldAfter 0 (decimal n) ≡ n
+    high : (n : ℕ) → 10 ≤ n → valueAfter 0 (decimal (n / 10)) ≡ n / 10 → valueAfter 0 (decimal n) ≡ n
     high n h before =
-        ap (toldAfter 0) (decimal-high n h) ∙ told-last (decimal (n / 10)) 0 (digit (n % 10)) ∙ omega (arith, before)
+        ap (valueAfter 0) (decimal-high n h) ∙ value-last (decimal (n / 10)) 0 (digit (n % 10)) ∙ omega (arith, before)
 
 digits-append : (xs : List ℕ) (b : ℕ) → AllDigits xs → 48 ≤ b → b ≤ 57 → AllDigits (xs ++ (b ∷ []))
 digits-append [] b k l u = (l, u, tt)
@@ -145,12 +145,12 @@ no-leading-zero = by-digits (λ n. 0 < n → 48 < getD (decimal n) 0 0) low high
         ∙ List·getD-append (decimal (n / 10)) (digit (n % 10) ∷ []) 0 0 (some-digit (n / 10)) in
         omega (arith, first, before (omega arith))
 
-pub text-tells : TextTells
+pub text-denotes : TextDenotes
 unfolding signedDecimal
-text-tells (pos n) = unsigned (decimal n) (only-digits n) (some-digit n) ∙ ap pos (digits-tell n)
+text-denotes (pos n) = unsigned (decimal n) (only-digits n) (some-digit n) ∙ ap pos (digits-denote n)
   where
     -- digits have no sign among them
-    unsigned : (l : List ℕ) → AllDigits l → 0 < length l → signedTold l ≡ pos (toldAfter 0 l)
+    unsigned : (l : List ℕ) → AllDigits l → 0 < length l → signedValue l ≡ pos (valueAfter 0 l)
     unsigned [] k h = absurd (omega arith)
     unsigned (b ∷ bs) k h = sym (cond-false (eqb b 45) _ _ (ne-eqb b 45 (λ e. omega (arith, e, k .0))) refl)
-text-tells (negsuc n) = ap (λ (m : ℕ). negℤ (pos m)) (digits-tell (suc n))
+text-denotes (negsuc n) = ap (λ (m : ℕ). negℤ (pos m)) (digits-denote (suc n))

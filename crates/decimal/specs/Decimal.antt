@@ -9,12 +9,12 @@ use lib.IntN.{ℤ, pos, negsuc}
 abbrev pub digit : ℕ → ℕ
 digit d = 48 + d
 
--- the digits of a number above 0: those of n / 10, of which there are none where that is 0, and then n % 10. `turns`
+-- the digits of a number above 0: those of n / 10, of which there are none where that is 0, and then n % 10. `fuel`
 -- bounds how often this is done; n times is always enough, and `decimal-steps` says the same without it.
 unfoldable pub digitsOf : ℕ → ℕ → List ℕ
 digitsOf zero n = []
-digitsOf (suc turns) zero = []
-digitsOf (suc turns) (suc n) = digitsOf turns (suc n / 10) ++ (digit (suc n % 10) ∷ [])
+digitsOf (suc fuel) zero = []
+digitsOf (suc fuel) (suc n) = digitsOf fuel (suc n / 10) ++ (digit (suc n % 10) ∷ [])
 
 -- 0 has one digit all the same
 unfoldable pub decimal : ℕ → List ℕ

@@ -10,7 +10,7 @@ use Rattle.decimal.specs.Decimal.{digit, decimal, signedDecimal}
 
 -- ---- digits
 
--- the digits without a bound on turns (`decimal-steps`)
+-- the digits without fuel (`decimal-steps`)
 abbrev pub DecimalSteps : Type 0
 DecimalSteps = (n : ℕ) → (n < 10 → decimal n ≡ digit n ∷ []) × (10 ≤ n → decimal n ≡ decimal (n / 10) ++ (digit (n % 10) ∷ []))
 
@@ -26,22 +26,22 @@ OnlyDigits = (n : ℕ) → AllDigits (decimal n)
 abbrev pub NoLeadingZero : Type 0
 NoLeadingZero = (n : ℕ) → 0 < n → 48 < getD (decimal n) 0 0
 
--- the number that digits tell, after those of `front`, and with a sign
-abbrev pub toldAfter : ℕ → List ℕ → ℕ
-toldAfter front [] = front
-toldAfter front (b ∷ bs) = toldAfter (10 * front + (b - 48)) bs
+-- the number that digits denote, after those of `front`, and with a sign
+abbrev pub valueAfter : ℕ → List ℕ → ℕ
+valueAfter front [] = front
+valueAfter front (b ∷ bs) = valueAfter (10 * front + (b - 48)) bs
 
-abbrev pub signedTold : List ℕ → ℤ
-signedTold [] = pos 0
-signedTold (b ∷ bs) = cond (eqb b 45) (negℤ (pos (toldAfter 0 bs))) (pos (toldAfter 0 (b ∷ bs)))
+abbrev pub signedValue : List ℕ → ℤ
+signedValue [] = pos 0
+signedValue (b ∷ bs) = cond (eqb b 45) (negℤ (pos (valueAfter 0 bs))) (pos (valueAfter 0 (b ∷ bs)))
 
--- the text of a number tells that number (`digits-tell`, `text-tells`)
-abbrev pub DigitsTell : Type 0
-DigitsTell = (n : ℕ) → toldAfter 0 (decimal n) ≡ n
+-- the text of a number denotes that number (`digits-denote`, `text-denotes`)
+abbrev pub DigitsDenote : Type 0
+DigitsDenote = (n : ℕ) → valueAfter 0 (decimal n) ≡ n
 
-abbrev pub TextTells : Type 0
-TextTells = (z : ℤ) → signedTold (signedDecimal z) ≡ z
+abbrev pub TextDenotes : Type 0
+TextDenotes = (z : ℤ) → signedValue (signedDecimal z) ≡ z
 
--- worked case: what 1 0 2 5 and -47 tell
-told : (toldAfter 0 (49 ∷ 48 ∷ 50 ∷ 53 ∷ []) ≡ 1025) × (signedTold (45 ∷ 52 ∷ 55 ∷ []) ≡ negsuc 46)
-told = (refl, refl)
+-- worked case: what 1 0 2 5 and -47 denote
+outcomes : (valueAfter 0 (49 ∷ 48 ∷ 50 ∷ 53 ∷ []) ≡ 1025) × (signedValue (45 ∷ 52 ∷ 55 ∷ []) ≡ negsuc 46)
+outcomes = (refl, refl)

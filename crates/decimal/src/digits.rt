@@ -1,5 +1,5 @@
-// Numbers as text, stored from a place on. Each function answers the place after what it stored. The room that they ask
-// for is there where they are called, here and for the lines.
+// Numbers as text, stored from a place on. Each function answers the place after what it stored. Callers establish the
+// precondition, room for the text: the functions below, and the lines of the listing.
 ghost use mathlib.Core.Path.{_≡_};
 ghost use mathlib.Core.List.{[], _∷_, _++_};
 ghost use Prim.Native.Nat.{_+_, _≤_, _<_};

@@ -55,8 +55,8 @@ abbrev wordOfZ : ℤ → List ℤ
 wordOfZ z = map pos (numberBytes zKind z)
 
 -- whole numbers of document 01's list
-abbrev told : List ℕ → List ℤ
-told ns = map pos ns
+abbrev expected : List ℕ → List ℤ
+expected ns = map pos ns
 
 -- what the definitions give, and what document 01 says
 abbrev pub Case : Type 0
@@ -70,12 +70,12 @@ cases =
     ∷ ((pos 2 *ℤ exactAt (pos 120) 256 256) ∷ [], (pos 95 *ℤ pos 37748736) ∷ [])
     ∷ (zAt (pos 120) 256 256 ∷ [], pos 48 ∷ [])
     ∷ (zAt low 256 256 ∷ [], negsuc 46 ∷ [])
-    ∷ (refinedZ (pos 120) 0 0, told (80 ∷ 20 ∷ 20 ∷ []))
-    ∷ (refinedZ (pos 120) 1 0, told (0 ∷ 60 ∷ 60 ∷ []))
-    ∷ (refinedZ (pos 120) 0 1, told (30 ∷ 0 ∷ 60 ∷ []))
-    ∷ (bezierZ (pos 120), told (1440 ∷ 0 ∷ 0 ∷ 2880 ∷ 2160 ∷ 0 ∷ 0 ∷ 0 ∷ 0 ∷ 2880 ∷ 0 ∷ 0 ∷ 1440 ∷ 1080 ∷ 0 ∷ 1440 ∷ 1440 ∷ 0 ∷ 960 ∷ []))
+    ∷ (refinedZ (pos 120) 0 0, expected (80 ∷ 20 ∷ 20 ∷ []))
+    ∷ (refinedZ (pos 120) 1 0, expected (0 ∷ 60 ∷ 60 ∷ []))
+    ∷ (refinedZ (pos 120) 0 1, expected (30 ∷ 0 ∷ 60 ∷ []))
+    ∷ (bezierZ (pos 120), expected (1440 ∷ 0 ∷ 0 ∷ 2880 ∷ 2160 ∷ 0 ∷ 0 ∷ 0 ∷ 0 ∷ 2880 ∷ 0 ∷ 0 ∷ 1440 ∷ 1080 ∷ 0 ∷ 1440 ∷ 1440 ∷ 0 ∷ 960 ∷ []))
     -- 5F FF FF FF hex
-    ∷ (wordOfZ (negsuc 0), told (95 ∷ 255 ∷ 255 ∷ 255 ∷ []))
+    ∷ (wordOfZ (negsuc 0), expected (95 ∷ 255 ∷ 255 ∷ 255 ∷ []))
     ∷ []
 
 -- every case holds

@@ -6,7 +6,7 @@ use lib.IntN.{pos}
 use Rattle.exact.specs.Filling.{runs}
 use Rattle.exact.specs.Rounding.{rounded, floorQuotient}
 use Rattle.net.specs.Net.{controlPoint, controlTriangle, grid}
-use Rattle.net.specs.TurnedAway.{netBeyond}
+use Rattle.net.specs.Refusals.{netBeyond}
 use Rattle.spline.specs.Spline.{spline}
 use Rattle.surface.specs.SurfacePoint.{coordinate}
 use Rattle.subdivision.specs.Refinement.{refinement, exactRefinement}

@@ -1,6 +1,6 @@
 -- Laws of lists that are filled front to back, run by run. `sets l at vs` (the kit's, `lib.Seq`) is l with vs stored
 -- from `at` on. A loop over the whole of a lent output keeps `out ≡ over (runs n f) old`: `over-none` opens it and
--- `over-more` closes a turn. An inner loop, which begins at a place, keeps `out ≡ sets old at (runs n f)`: `runs-none`
+-- `over-more` closes an iteration. An inner loop, which begins at a place, keeps `out ≡ sets old at (runs n f)`: `runs-none`
 -- and `runs-more`. A row of runs is one run of the outer loop.
 use mathlib.Core.Path.{_≡_, refl, sym, _∙_, ap}
 use mathlib.Core.List.{List, [], _∷_, _++_, append-assoc}

@@ -211,10 +211,10 @@ sum-same (w ∷ ws) (v ∷ vs) (u ∷ us) e h =
 -- ---- for a loop that adds term by term
 
 -- s with the term at i added, and the rest after i, is s with the rest from i on
-pub sum-turn : (s : ℤ) (ws vs : List ℤ) (i : ℕ) → i < length ws → i < length vs →
+pub sum-step : (s : ℤ) (ws vs : List ℤ) (i : ℕ) → i < length ws → i < length vs →
     (s +ℤ getD ws i (pos 0) *ℤ getD vs i (pos 0)) +ℤ weightedSum (drop (i + 1) ws) (drop (i + 1) vs) ≡ s +ℤ weightedSum (drop i ws) (drop i vs)
 unfolding weightedSum
-sum-turn s ws vs i h k =
+sum-step s ws vs i h k =
     rw (add-one, drop-cons ws i (pos 0), drop-cons vs i (pos 0))
     (+ℤ-assoc s (getD ws i (pos 0) *ℤ getD vs i (pos 0)) (weightedSum (drop (suc i) ws) (drop (suc i) vs)))
 

@@ -23,7 +23,7 @@ abbrev pub Within : ℕ → List ℤ → Type 0
 Within n [] = Unit {0}
 Within n (z ∷ zs) = (natAbs z ≤ n) × Within n zs
 
--- what the code asks of weights and values: as many of each, at most nine, and each weight at most 2 ^ 26 in size
+-- the precondition of the code on weights and values: as many of each, at most nine, and each weight at most 2 ^ 26 in size
 pub record Summable (ws vs : List ℤ) : Type 0 where
   pub alike : length ws ≡ length vs
   pub few : length ws ≤ 9

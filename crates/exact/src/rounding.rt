@@ -1,5 +1,5 @@
-// Rounding of a quotient of signed numbers. Division in the language goes towards zero; that slip is shut out here,
-// once.
+// Rounding of a quotient of signed numbers. Division in the language truncates towards zero; the only signed division
+// of the kernel stands here.
 ghost use mathlib.Core.Path.{_≡_};
 ghost use Prim.Native.Nat.{_<_, _≤_, _^_};
 ghost use lib.IntN.{pos, natAbs};

@@ -32,7 +32,7 @@ fn weighted_mean(weights: &[i64], values: &[i32], d: u64) -> i64
     round_quotient(sum, d)
 }
 
-// The sum of three, six and nine terms. Other crates call these; a bound on the weights is all that they ask.
+// The sum of three, six and nine terms, for other crates. The precondition is a bound on the weights alone.
 pub fn weighted_sum3(weights: [i64; 3], values: [i32; 3]) -> i64
     requires { ⌜ Within (2 ^ 26) weights ⌝ }
     ensures { λ r. ⌜ Summed weights values r ⌝ }

@@ -7,9 +7,10 @@ use listing_text::list_piece;
 use listing_text::list_refusal;
 use listing_text::refine_file;
 ghost use Prim.Native.Nat.{_*_, _≤_};
-ghost use Rattle.net.specs.TurnedAway.{AcceptedNet};
+ghost use Rattle.net.specs.Refusals.{AcceptedNet};
 
-// Piece n of the listing; answers whether it was written. What it and `print_listing` ask is met in this file.
+// Piece n of the listing; answers whether it was written. Callers in this file establish its
+// precondition and that of `print_listing`.
 fn print_piece(net: &[i32], w: usize, h: usize, n: usize) -> bool
     requires { ⌜ AcceptedNet (now net) w h × (n ≤ w * h) ⌝ }
 {

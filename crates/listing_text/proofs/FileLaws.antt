@@ -11,30 +11,30 @@ use lib.ListN.{length, getD}
 use Rattle.exact.specs.Filling.{over, runs}
 use Rattle.exact.proofs.FillingLaws.{runs-same}
 use Rattle.net.specs.Net.{number}
-use Rattle.net.specs.TurnedAway.{Fault, AcceptedNet}
+use Rattle.net.specs.Refusals.{Fault, AcceptedNet}
 use Rattle.net.proofs.Faults.{when-accepted, numbered-append, none-clear, clear-none, clear-parts, fault-before, fault-after, answered}
 use Rattle.places.specs.Places.{OnGrid}
 use Rattle.subdivision.specs.Refinement.{refinedSide, sideAfter}
 use Rattle.steps.specs.RefinedNet.{refinedNet}
-use Rattle.refine.specs.TurnedAway.{tooShort, sizeFaults, netFaults, refineRefusal}
-use Rattle.refine.proofs.Taken.{Taken, refine-taken}
+use Rattle.refine.specs.Refusals.{tooShort, sizeFaults, netFaults, refineRefusal}
+use Rattle.refine.proofs.Refinable.{Refinable, refine-accepted}
 use Rattle.refine.proofs.CutNets.{cut-refine-refusal, cut-refined}
 use Rattle.refined_points.proofs.RefinedPoints.{refined-accepted, refined-coordinate, point-of-refined}
 use Rattle.words.specs.NetFile.{fileWidth, fileHeight, fileNumbers}
 use Rattle.words.specs.Answers.{answer}
-use Rattle.reader.specs.TurnedAway.{readFaults, readRefusal, shortFor}
+use Rattle.reader.specs.Refusals.{readFaults, readRefusal, shortFor}
 use Rattle.reader.specs.Answers.{readNet}
 use Rattle.reader.proofs.ReadLaws.{read-numbered}
 use Rattle.netfile.specs.Promises.{Readable}
 use Rattle.netfile.proofs.AcceptedFiles.{read-front}
 use Rattle.listing_text.specs.Listing.{headLine, pointLine, refusalLine, vertexLine, listing}
-use Rattle.listing_text.specs.Printed.{bufferSize, listTold, listRefusal, refinedFile, ReadyToList}
+use Rattle.listing_text.specs.Printed.{bufferSize, listOutcome, listRefusal, refinedFile, ReadyToList}
 use Rattle.listing_text.specs.Promises.{PiecesPrinted}
 use Rattle.listing_text.proofs.PieceLaws.{pieces-list}
 use Rattle.listing_text.specs.declared.files.ListAnswer.{ListAnswer}
 use Rattle.listing_text.specs.declared.files.ListAnswer.the-variants as listed
 
-module _ (file : List ℕ) (lent : List ℤ) (space : ℕ) where
+module _ (file : List ℕ) (lent : List ℤ) (outRoom : ℕ) where
   abbrev w : ℕ
   w = fileWidth file
 
@@ -45,18 +45,18 @@ module _ (file : List ℕ) (lent : List ℤ) (space : ℕ) where
   reading = readFaults file (shortFor file (length lent))
 
   abbrev short : Bool
-  short = tooShort w h 1 space 0
+  short = tooShort w h 1 outRoom 0
 
   abbrev later : List Fault
   later = sizeFaults w h 1 ++ netFaults (fileNumbers file) w h short
 
   -- reading refuses
-  pub refused-reading : {n : ℕ} → n ≡ readRefusal file (shortFor file (length lent)) → (n ≡ 0 → ⊥) → n ≡ listRefusal file (length lent) space
+  pub refused-reading : {n : ℕ} → n ≡ readRefusal file (shortFor file (length lent)) → (n ≡ 0 → ⊥) → n ≡ listRefusal file (length lent) outRoom
   refused-reading e there = e ∙ fault-before reading later (λ z. there (e ∙ z))
 
   -- or it does not: then refining what was read is refused as the file's numbers are
   module _ (taken : Readable file lent) where
-    pub refusal-after : refineRefusal (readNet file lent) w h 1 short ≡ listRefusal file (length lent) space
+    pub refusal-after : refineRefusal (readNet file lent) w h 1 short ≡ listRefusal file (length lent) outRoom
     refusal-after =
         cut-refine-refusal (readNet file lent) w h short 1
         ∙ ap (λ (l : List ℤ). refineRefusal l w h 1 short) (read-front file lent taken)
@@ -65,17 +65,17 @@ module _ (file : List ℕ) (lent : List ℤ) (space : ℕ) where
     pub refined-after : refinedNet (readNet file lent) w h 1 ≡ refinedFile file
     refined-after = cut-refined (readNet file lent) w h 1 ∙ ap (λ (l : List ℤ). refinedNet l w h 1) (read-front file lent taken)
 
-    -- and what is left is a net that is taken
-    pub accepted-after : (refined : List ℤ) → space ≡ length refined → listRefusal file (length lent) space ≡ 0 →
+    -- and what is left is an accepted net
+    pub accepted-after : (refined : List ℤ) → outRoom ≡ length refined → listRefusal file (length lent) outRoom ≡ 0 →
         AcceptedNet (over (refinedFile file) refined) (refinedSide w) (refinedSide h)
     accepted-after refined e none =
         let net = readNet file lent in
-        let t = refine-taken net w h 1 (length refined) 0 (ap (λ (n : ℕ). refineRefusal net w h 1 (tooShort w h 1 n 0)) (sym e) ∙ refusal-after ∙ none) in
+        let t = refine-accepted net w h 1 (length refined) 0 (ap (λ (n : ℕ). refineRefusal net w h 1 (tooShort w h 1 n 0)) (sym e) ∙ refusal-after ∙ none) in
         subst (λ (l : List ℤ). AcceptedNet (over l refined) (refinedSide w) (refinedSide h)) refined-after
         (refined-accepted net w h 1 refined t)
 
--- what an answer tells makes its net ready
-pub ready : (r : ListAnswer) (refusal m n : ℕ) (net : List ℤ) → listTold r ≡ answer refusal (m ∷ n ∷ []) → (refusal ≡ 0 → AcceptedNet net m n) → ReadyToList r net
+-- the outcome of an answer makes its net ready
+pub ready : (r : ListAnswer) (refusal m n : ℕ) (net : List ℤ) → listOutcome r ≡ answer refusal (m ∷ n ∷ []) → (refusal ≡ 0 → AcceptedNet net m n) → ReadyToList r net
 ready (listed.Net a b) refusal m n net e f =
     let q = answered refusal (m ∷ n ∷ []) e in
     subst (λ (l : List ℕ). AcceptedNet net (getD l 0 0) (getD l 1 0)) (sym (q .1)) (f (q .0))
@@ -84,19 +84,19 @@ ready (listed.Refused k) refusal m n net e f = tt
 -- ---- what is printed
 
 -- where nothing is refused, refining the file's numbers is not
-nothing-refused : (file : List ℕ) (room space : ℕ) → listRefusal file room space ≡ 0 →
-    refineRefusal (fileNumbers file) (fileWidth file) (fileHeight file) 1 (tooShort (fileWidth file) (fileHeight file) 1 space 0) ≡ 0
-nothing-refused file room space none =
+nothing-refused : (file : List ℕ) (netRoom outRoom : ℕ) → listRefusal file netRoom outRoom ≡ 0 →
+    refineRefusal (fileNumbers file) (fileWidth file) (fileHeight file) 1 (tooShort (fileWidth file) (fileHeight file) 1 outRoom 0) ≡ 0
+nothing-refused file netRoom outRoom none =
     let w = fileWidth file in
     let h = fileHeight file in
-    let reading = readFaults file (shortFor file room) in
-    let later = sizeFaults w h 1 ++ netFaults (fileNumbers file) w h (tooShort w h 1 space 0) in
-    let first = read-numbered file (shortFor file room) in
+    let reading = readFaults file (shortFor file netRoom) in
+    let later = sizeFaults w h 1 ++ netFaults (fileNumbers file) w h (tooShort w h 1 outRoom 0) in
+    let first = read-numbered file (shortFor file netRoom) in
     let all = none-clear (reading ++ later) (numbered-append reading later first (lit< tt, (lit< tt, (lit< tt, (lit< tt, (lit< tt, tt)))))) none in
     clear-none later (clear-parts reading later all .1)
 
 -- a line of what is left in the buffer is the refined net's
-line-after : (net : List ℤ) (w h k : ℕ) (out : List ℤ) {spare : ℕ} → Taken net w h k (length out) spare → (i j : ℕ) → i < sideAfter k w → j < sideAfter k h →
+line-after : (net : List ℤ) (w h k : ℕ) (out : List ℤ) {scratchLength : ℕ} → Refinable net w h k (length out) scratchLength → (i j : ℕ) → i < sideAfter k w → j < sideAfter k h →
     vertexLine (over (refinedNet net w h k) out) (sideAfter k w) (sideAfter k h) i j ≡ vertexLine (refinedNet net w h k) (sideAfter k w) (sideAfter k h) i j
 line-after net w h k out a i j u v =
     let place : OnGrid 1024 (sideAfter k w) (sideAfter k h) (1024 * i) (1024 * j) = (omega (arith, u), omega (arith, v)) in
@@ -112,7 +112,7 @@ unfolding listing
 pieces-printed file buffer long none =
     let w = fileWidth file in
     let h = fileHeight file in
-    let t = subst (λ (n : ℕ). Taken (fileNumbers file) w h 1 n 0) (sym long) (refine-taken (fileNumbers file) w h 1 bufferSize 0 (nothing-refused file bufferSize bufferSize none)) in
+    let t = subst (λ (n : ℕ). Refinable (fileNumbers file) w h 1 n 0) (sym long) (refine-accepted (fileNumbers file) w h 1 bufferSize 0 (nothing-refused file bufferSize bufferSize none)) in
     let left = over (refinedFile file) buffer in
     let wide = refinedSide w in
     let high = refinedSide h in

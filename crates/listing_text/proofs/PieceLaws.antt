@@ -1,4 +1,4 @@
--- The pieces of a listing: a net that is taken refuses no vertex its point, which vertex a piece is of, and that the
+-- The pieces of a listing: an accepted net refuses no vertex its point, which vertex a piece is of, and that the
 -- pieces are the listing.
 use mathlib.Core.Path.{_≡_, sym, ap, _∙_}
 use mathlib.Core.List.{List, [], _∷_, _++_, append-nil, append-assoc}
@@ -11,10 +11,10 @@ use lib.IntN.{ℤ, pos}
 use lib.ListN.{getD}
 use Rattle.exact.specs.Filling.{runs}
 use Rattle.exact.proofs.FillingLaws.{runs-same}
-use Rattle.net.specs.TurnedAway.{AcceptedNet}
+use Rattle.net.specs.Refusals.{AcceptedNet}
 use Rattle.net.proofs.Faults.{answered, not-accepted}
 use Rattle.surface.specs.SurfacePoint.{coordinate, surfacePoint}
-use Rattle.surface.specs.TurnedAway.{pointRefusal}
+use Rattle.surface.specs.Refusals.{pointRefusal}
 use Rattle.surface.specs.Answers.{pointAnswer}
 use Rattle.surface.proofs.Accepted.{point-not-refused}
 use Rattle.listing_text.specs.Listing.{headLine, vertexLine, listing, pieceText}
@@ -22,15 +22,15 @@ use Rattle.listing_text.specs.Promises.{PiecesList}
 
 -- ---- the point of a vertex
 
-pub vertex-taken : (net : List ℤ) (w h : ℕ) → AcceptedNet net w h → (i j : ℕ) → i < w → j < h → pointRefusal net w h (1024 * i) (1024 * j) ≡ 0
-vertex-taken net w h a i j u v = point-not-refused net w h a (1024 * i) (1024 * j) (omega (arith, u), omega (arith, v))
+pub vertex-accepted : (net : List ℤ) (w h : ℕ) → AcceptedNet net w h → (i j : ℕ) → i < w → j < h → pointRefusal net w h (1024 * i) (1024 * j) ≡ 0
+vertex-accepted net w h a i j u v = point-not-refused net w h a (1024 * i) (1024 * j) (omega (arith, u), omega (arith, v))
 
--- what an accepted point tells, and that a refused one tells nothing
+-- the outcome of an accepted point, and that no point is refused
 module _ (net : List ℤ) (w h p q : ℕ) (none : pointRefusal net w h p q ≡ 0) where
-  pub point-told : {x y z : ℤ} → (0, x ∷ y ∷ z ∷ []) ≡ pointAnswer net w h p q →
+  pub point-outcome : {x y z : ℤ} → (0, x ∷ y ∷ z ∷ []) ≡ pointAnswer net w h p q →
       (x ≡ coordinate net w h p q 0) × (y ≡ coordinate net w h p q 1) × (z ≡ coordinate net w h p q 2)
   unfolding pointAnswer
-  point-told e =
+  point-outcome e =
       let same = answered (pointRefusal net w h p q) (surfacePoint net w h p q) e .1 in
       (ap (λ (l : List ℤ). getD l 0 (pos 0)) same, ap (λ (l : List ℤ). getD l 1 (pos 0)) same, ap (λ (l : List ℤ). getD l 2 (pos 0)) same)
 

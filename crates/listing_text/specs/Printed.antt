@@ -5,13 +5,13 @@ use mathlib.Core.List.{List, [], _∷_, _++_}
 use Prim.Native.Nat.{ℕ}
 use lib.IntN.{ℤ}
 use lib.ListN.{take}
-use Rattle.net.specs.TurnedAway.{firstFault, accepted, AcceptedNet}
+use Rattle.net.specs.Refusals.{firstFault, accepted, AcceptedNet}
 use Rattle.subdivision.specs.Refinement.{refinedSide}
 use Rattle.steps.specs.RefinedNet.{refinedNet}
-use Rattle.refine.specs.TurnedAway.{tooShort, sizeFaults, netFaults}
+use Rattle.refine.specs.Refusals.{tooShort, sizeFaults, netFaults}
 use Rattle.words.specs.NetFile.{fileWidth, fileHeight, fileNumbers}
 use Rattle.words.specs.Answers.{answer}
-use Rattle.reader.specs.TurnedAway.{readFaults, shortFor}
+use Rattle.reader.specs.Refusals.{readFaults, shortFor}
 use Rattle.decimal.specs.Decimal.{digitsOf, decimal}
 use Rattle.listing_text.specs.Listing.{listing, refusalLine}
 use Rattle.listing_text.specs.declared.files.ListAnswer.{ListAnswer}
@@ -25,26 +25,26 @@ abbrev pub bufferSize : ℕ
 bufferSize = 16384
 
 -- document 01's number of an answer, 0 where nothing is refused, and its values: the refined width and height
-abbrev pub listTold : ListAnswer → ℕ × List ℕ
-listTold (listed.Net w h) = (0, w ∷ h ∷ [])
-listTold (listed.Refused n) = (n, [])
+abbrev pub listOutcome : ListAnswer → ℕ × List ℕ
+listOutcome (listed.Net w h) = (0, w ∷ h ∷ [])
+listOutcome (listed.Refused n) = (n, [])
 
--- 'reads a net file .., refines once': the first fault of reading into a buffer of `room` numbers, and then of refining
--- into one of `space`; one step needs no scratch
+-- 'reads a net file .., refines once': the first fault of reading into a buffer of `netRoom` numbers, and then of refining
+-- into one of `outRoom`; one step needs no scratch
 abbrev pub listRefusal : List ℕ → ℕ → ℕ → ℕ
-listRefusal file room space =
+listRefusal file netRoom outRoom =
     (let w = fileWidth file in
     let h = fileHeight file in
-    firstFault (readFaults file (shortFor file room) ++ (sizeFaults w h 1 ++ netFaults (fileNumbers file) w h (tooShort w h 1 space 0))))
+    firstFault (readFaults file (shortFor file netRoom) ++ (sizeFaults w h 1 ++ netFaults (fileNumbers file) w h (tooShort w h 1 outRoom 0))))
 
 -- the file's net, refined once
 abbrev pub refinedFile : List ℕ → List ℤ
 refinedFile file = refinedNet (fileNumbers file) (fileWidth file) (fileHeight file) 1
 
 abbrev pub listAnswer : List ℕ → ℕ → ℕ → ℕ × List ℕ
-listAnswer file room space = answer (listRefusal file room space) (refinedSide (fileWidth file) ∷ refinedSide (fileHeight file) ∷ [])
+listAnswer file netRoom outRoom = answer (listRefusal file netRoom outRoom) (refinedSide (fileWidth file) ∷ refinedSide (fileHeight file) ∷ [])
 
--- an answer with a size comes with a net of that size that is taken
+-- an answer with a size comes with an accepted net of that size
 abbrev pub ReadyToList : ListAnswer → List ℤ → Type 0
 ReadyToList (listed.Net w h) net = AcceptedNet net w h
 ReadyToList (listed.Refused n) net = Unit {0}

@@ -1,5 +1,5 @@
-// The lines, each from the front of a lent output. What the inner functions ask is met by `list_refusal` and
-// `list_piece`.
+// The lines, each from the front of a lent output. `list_refusal` and `list_piece` establish the preconditions of the
+// inner functions.
 use decimal::store_count;
 use decimal::store_number;
 ghost use mathlib.Core.Path.{_≡_};

@@ -7,11 +7,11 @@ ghost use mathlib.Core.Path.{_≡_};
 ghost use Prim.Native.Nat.{_*_, _≤_};
 ghost use lib.ListN.{length};
 ghost use Rattle.exact.specs.Filling.{over};
-ghost use Rattle.net.specs.TurnedAway.{AcceptedNet};
+ghost use Rattle.net.specs.Refusals.{AcceptedNet};
 ghost use Rattle.listing_text.specs.Listing.{pieceText, longestLine};
 
 // Piece n of the listing over the front of `out`, and how long it is. For the listing program, which lends room for a
-// line and a net that is taken: such a net refuses no vertex its point.
+// line and an accepted net, no vertex of which is refused its point.
 pub fn list_piece(net: &[i32], w: usize, h: usize, n: usize, out: &mut [u8]) -> usize
     requires { ⌜ AcceptedNet (now net) w h × (n ≤ w * h) × (longestLine ≤ length (now out)) ⌝ }
     ensures { λ r. ⌜ now (out .exit) ≡ over (pieceText (now (net .entry)) w h n) (now (out .entry)) ⌝ }

@@ -11,7 +11,7 @@ use lib.ListN.{length, take, drop, length-take}
 use lib.Seq.{take-take, take-add, drop-at, getD-take, length-take-le}
 use borrow.Author.Tests.{lt-ltb, le-ltb, ltb-true, ltb-false, eqb-true}
 use Rattle.net.specs.Net.{Index, Vertex, vertexAt, numbers, start, vertexNumbers, rank, field, stride, pointStride}
-use Rattle.net.specs.TurnedAway.{anyBeyond, netBeyond, accepted, badSize, noVertex, shortNet, vertexRefusal, vertexPart, firstFault}
+use Rattle.net.specs.Refusals.{anyBeyond, netBeyond, accepted, badSize, noVertex, shortNet, vertexRefusal, vertexPart, firstFault}
 use Rattle.net.proofs.Places.{good-vertex, vertex-ends, field-number, within-record}
 
 -- the first 9wh numbers

@@ -10,7 +10,7 @@ use lib.ListN.{length}
 use borrow.Author.Tests.{eq-eqb, ne-eqb}
 use Rattle.exact.specs.Filling.{runs}
 use Rattle.exact.proofs.FillingLaws.{runs-suc}
-use Rattle.net.specs.TurnedAway.{Fault, firstFault, accepted}
+use Rattle.net.specs.Refusals.{Fault, firstFault, accepted}
 
 -- `a || b` from a alone, and from b where a fails
 pub or-yes : (a b : Bool) → a ≡ true → true ≡ (a || b)
@@ -78,7 +78,7 @@ none-clear ((there, n) ∷ fs) k e =
     let q = fault-none there n (firstFault fs) (k .0) e in
     (q .0, none-clear fs (k .1) (q .1))
 
--- past a list without a fault the next one tells
+-- past a list without a fault the next one counts
 pub fault-after : (fs gs : List Fault) → Clear fs → firstFault gs ≡ firstFault (fs ++ gs)
 fault-after [] gs k = refl
 fault-after ((there, n) ∷ fs) gs k = cond-false there n (firstFault (fs ++ gs)) (k .0) (fault-after fs gs (k .1))
@@ -114,7 +114,7 @@ clear-run (suc n) f k i h =
     go before last (yes l) = before l
     go before last (no l) = subst (λ (j : ℕ). Clear (f j)) (omega arith) last
 
--- a fault of the first runs tells, and so the first run with a fault
+-- a fault of the first runs counts, and so the first run with a fault
 pub fault-in-front : (m n : ℕ) (f : ℕ → List Fault) {r : ℕ} → m ≤ n → r ≡ firstFault (runs m f) → (r ≡ 0 → ⊥) → r ≡ firstFault (runs n f)
 unfolding runs
 fault-in-front m zero f h e there =
@@ -142,7 +142,7 @@ numbered-runs (suc n) f k = numbered-append (runs n f) (f n) (numbered-runs n f 
 -- ---- an answer is a refusal's number and values, none where it is refused
 
 module _ {ℓ} {A : Type ℓ} (r : ℕ) (values : List A) where
-  -- what an accepted answer tells, and a refused one
+  -- the outcome of an accepted answer, and of a refused one
   pub answered : {l : List A} → _≡_ {A = ℕ × List A} (0, l) (r, cond (accepted r) values []) → (r ≡ 0) × (l ≡ values)
   answered {l} e =
       let z : r ≡ 0 = λ t. sym e t .0 in

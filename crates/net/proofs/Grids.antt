@@ -13,7 +13,7 @@ use lib.Seq.{drop-drop}
 use Rattle.exact.specs.Filling.{runs}
 use Rattle.exact.proofs.FillingLaws.{length-runs, getD-runs, runs-same, runs-of-parts}
 use Rattle.net.specs.Net.{Vertex, vertexAt, number, recordStart, gridRow, grid}
-use Rattle.net.specs.TurnedAway.{anyBeyond}
+use Rattle.net.specs.Refusals.{anyBeyond}
 use Rattle.net.proofs.Ranges.{any-runs}
 
 -- where the record of a vertex begins, by rows, and the numbers of all rows

@@ -15,7 +15,7 @@ use borrow.Author.Tests.{ltb-false, leb-false}
 use Rattle.exact.specs.Filling.{runs}
 use Rattle.exact.proofs.FillingLaws.{array-elements}
 use Rattle.net.specs.Net.{Index, one, two, three, rank, Vertex, vertexAt, numbers, start, vertexNumbers, number, controlPoint, controlTriangle, field, stride, pointStride}
-use Rattle.net.specs.TurnedAway.{badSide, badSize, noVertex, shortNet, anyBeyond, vertexRefusal, vertexPart}
+use Rattle.net.specs.Refusals.{badSide, badSize, noVertex, shortNet, anyBeyond, vertexRefusal, vertexPart}
 use Rattle.net.proofs.Faults.{or-none, fault-none, when-accepted, when-refused}
 use Rattle.net.proofs.Ranges.{in-range}
 

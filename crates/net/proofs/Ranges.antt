@@ -14,7 +14,7 @@ use lib.Signed.{_≤ℤ_, _<ℤ_, ltZ}
 use borrow.Author.Tests.{lt-ltb, le-ltb, ltb-false}
 use Rattle.exact.specs.Filling.{runs}
 use Rattle.net.specs.Net.{numbers}
-use Rattle.net.specs.TurnedAway.{beyond, anyBeyond, netBeyond}
+use Rattle.net.specs.Refusals.{beyond, anyBeyond, netBeyond}
 use Rattle.net.proofs.Faults.{or-none, or-no, or-yes}
 
 pub beyond-below : (z : ℤ) → z <ℤ negsuc 16777215 → true ≡ beyond z

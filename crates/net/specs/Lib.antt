@@ -1,3 +1,3 @@
--- The definitions that contracts cite: the net and its storage, and what is turned away.
+-- The definitions that contracts cite: the net and its storage, and the refusals.
 pub mod Net
-pub mod TurnedAway
+pub mod Refusals

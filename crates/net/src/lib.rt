@@ -4,11 +4,11 @@ mod sizes;
 mod storage;
 mod vertices;
 
-// The calls of document 01: they ask nothing of their caller.
+// The calls of document 01: no preconditions.
 pub use vertices::vertex;
 pub use vertices::vertex_refusal;
 
-// For the crates above, which are seen to meet what these ask.
+// For the crates above: callers establish the preconditions.
 pub use records::POINT_STRIDE;
 pub use records::STRIDE;
 pub use sizes::bad_side;

@@ -2,7 +2,7 @@
 use crate::records::STRIDE;
 ghost use mathlib.Core.Path.{_≡_};
 ghost use mathlib.Core.Bool.{false};
-ghost use Rattle.net.specs.TurnedAway.{badSide, badSize, shortNet};
+ghost use Rattle.net.specs.Refusals.{badSide, badSize, shortNet};
 
 // Whether the count of vertices of one side is outside 2 to 1,025.
 pub fn bad_side(n: usize) -> bool

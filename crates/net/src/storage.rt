@@ -7,7 +7,7 @@ ghost use Prim.Native.Nat.{_+_, _≤_, _<_, _*_};
 ghost use lib.ListN.{length, take};
 ghost use lib.Seq.{sets};
 ghost use Rattle.net.specs.Net.{controlPoint, controlTriangle, vertexAt, stride, numbers, start, vertexNumbers};
-ghost use Rattle.net.specs.TurnedAway.{badSize, beyond, anyBeyond, netBeyond};
+ghost use Rattle.net.specs.Refusals.{badSize, beyond, anyBeyond, netBeyond};
 
 // The control point that begins at a place of the net.
 fn load_point(net: &[i32], at: usize) -> [i32; 3]

@@ -3,7 +3,7 @@ use crate::records::STRIDE;
 use crate::sizes::bad_size;
 use crate::sizes::short_net;
 ghost use mathlib.Core.Path.{_≡_};
-ghost use Rattle.net.specs.TurnedAway.{noVertex, vertexRefusal, vertexPart};
+ghost use Rattle.net.specs.Refusals.{noVertex, vertexRefusal, vertexPart};
 
 // Whether vertex (i, j) is not in the grid.
 fn no_vertex(w: usize, h: usize, i: usize, j: usize) -> bool

@@ -1,4 +1,4 @@
--- A file that is taken: its length, that no shorter and no longer one is taken with the same bytes, and that its net
+-- An accepted file: its length, that no shorter and no longer one is accepted with the same bytes, and that its net
 -- writes back to it.
 use mathlib.Core.Path.{_≡_, refl, sym, ap, subst, _∙_}
 use mathlib.Core.Bool.{Bool, false}
@@ -14,15 +14,15 @@ use borrow.Author.Tests.{ltb-false, le-ltb, eqb-true, not-false}
 use Rattle.exact.specs.Filling.{over, runs}
 use Rattle.exact.proofs.FillingLaws.{runs-of-parts, runs-same, length-runs, getD-runs, take-over, length-over}
 use Rattle.net.specs.Net.{number, numbers, pointStride}
-use Rattle.net.specs.TurnedAway.{beyond, anyBeyond}
+use Rattle.net.specs.Refusals.{beyond, anyBeyond}
 use Rattle.net.proofs.Beyond.{cut}
 use Rattle.net.proofs.Faults.{Clear, clear-none, clear-parts, clear-run, or-no, when-accepted, accepted-answer}
 use Rattle.net.proofs.Ranges.{any-runs, front-in-range}
-use Rattle.words.specs.NetFile.{word, kindOf, payloadOf, widthKind, heightKind, xKind, yKind, zKind, endKind, wordBytes, firstWord, points, numberBytes, pointBytes, netFile, fileSize, fileWidth, fileHeight, firstNumber, firstPoint, fromPoint, fileNumbers, AllBytes, headSize, pointSize}
-use Rattle.words.specs.TurnedAway.{wordFaults}
+use Rattle.words.specs.NetFile.{word, wordKind, wordPayload, widthKind, heightKind, xKind, yKind, zKind, endKind, wordBytes, firstWord, points, numberBytes, pointBytes, netFile, fileSize, fileWidth, fileHeight, firstNumber, firstPoint, fromPoint, fileNumbers, AllBytes, headSize, pointSize}
+use Rattle.words.specs.Refusals.{wordFaults}
 use Rattle.words.proofs.WordLaws.{payload-small, word-of-parts, bytes-of-first, same-first, complement-signed}
-use Rattle.writer.specs.TurnedAway.{writeFaults, writeRefusal, noRoom}
-use Rattle.reader.specs.TurnedAway.{numberFaults, pointFaults, endFaults, headFaults, bodyFaults, readRefusal, shortFor}
+use Rattle.writer.specs.Refusals.{writeFaults, writeRefusal, noRoom}
+use Rattle.reader.specs.Refusals.{numberFaults, pointFaults, endFaults, headFaults, bodyFaults, readRefusal, shortFor}
 use Rattle.reader.specs.Answers.{readNet}
 use Rattle.reader.proofs.Parsing.{point-parts}
 use Rattle.reader.proofs.ReadLaws.{read-parts, head-there, GoodHead, good-head, points-there}
@@ -71,10 +71,10 @@ first-of-longer l more k = same-first (l ++ more) l (λ i h. List·getD-append l
 longer : (file more : List ℕ) (short other : Bool) → readRefusal file short ≡ 0 → readRefusal (file ++ more) other ≡ 0 → length more ≡ 0
 longer file more short other e f =
     let there = sides-there file short e in
-    let width : fileWidth (file ++ more) ≡ fileWidth file = ap payloadOf (first-of-longer file more (omega (arith, there))) in
+    let width : fileWidth (file ++ more) ≡ fileWidth file = ap wordPayload (first-of-longer file more (omega (arith, there))) in
     let height : fileHeight (file ++ more) ≡ fileHeight file =
-    ap (λ (l : List ℕ). payloadOf (firstWord l)) (drop-append-le 4 file more (omega (arith, there)))
-    ∙ ap payloadOf (first-of-longer (drop 4 file) more (omega (arith, there, length-drop 4 file))) in
+    ap (λ (l : List ℕ). wordPayload (firstWord l)) (drop-append-le 4 file more (omega (arith, there)))
+    ∙ ap wordPayload (first-of-longer (drop 4 file) more (omega (arith, there, length-drop 4 file))) in
     let same : fileSize (fileWidth (file ++ more)) (fileHeight (file ++ more)) ≡ fileSize (fileWidth file) (fileHeight file) = λ t. fileSize (width t) (height t) in
     omega (arith, whole-length file short e, whole-length (file ++ more) other f, same, length-append file more)
 
@@ -95,14 +95,14 @@ bytes-from : (file : List ℕ) (n : ℕ) → AllBytes file → AllBytes (drop n 
 bytes-from file n small i = subst (λ (b : ℕ). b < 256) (sym (getD-drop n file i 0)) (small (n + i))
 
 module _ (left : List ℕ) (small : AllBytes left) where
-  word-back : (kind : ℕ) → Clear (wordFaults left kind) → wordBytes (word kind (payloadOf (firstWord left))) ≡ take 4 left
+  word-back : (kind : ℕ) → Clear (wordFaults left kind) → wordBytes (word kind (wordPayload (firstWord left))) ≡ take 4 left
   word-back kind k =
-      ap wordBytes (word-of-parts (firstWord left) (eqb-true (kindOf (firstWord left)) kind (not-false (eqb (kindOf (firstWord left)) kind) (k .1 .0))))
+      ap wordBytes (word-of-parts (firstWord left) (eqb-true (wordKind (firstWord left)) kind (not-false (eqb (wordKind (firstWord left)) kind) (k .1 .0))))
       ∙ bytes-of-first left (ltb-false (length left) 4 (k .0)) small
 
   number-back : (kind : ℕ) → Clear (numberFaults left kind) → numberBytes kind (firstNumber left) ≡ take 4 left
   number-back kind k =
-      ap (λ (p : ℕ). wordBytes (word kind p)) (complement-signed (payloadOf (firstWord left)) (payload-small (firstWord left)))
+      ap (λ (p : ℕ). wordBytes (word kind p)) (complement-signed (wordPayload (firstWord left)) (payload-small (firstWord left)))
       ∙ word-back kind (k .0, (k .1 .0, tt))
 
 -- three words of a control point
@@ -172,8 +172,8 @@ module _ (file : List ℕ) (lent : List ℤ) (taken : Readable file lent) where
       ∙ ap (number (fileNumbers file)) e
       ∙ getD-runs n pointStride (λ j. firstPoint (fromPoint file j)) (pos 0) (λ j q. point-numbers (fromPoint file j)) i r k l
 
-  taken-again : Writable after width height
-  taken-again =
+  accepted-again : Writable after width height
+  accepted-again =
       clear-none (writeFaults after width height false) (
         good file short taken (length lent) refl .size,
         (
@@ -206,7 +206,7 @@ module _ (file : List ℕ) (lent : List ℤ) (taken : Readable file lent) where
     end-after =
         let k = after-head file short taken .1 in
         let v = firstWord (fromPoint file n) in
-        let zero : payloadOf v ≡ 0 = eqb-true (payloadOf v) 0 (not-false (eqb (payloadOf v) 0) (k .1 .1 .0)) in
+        let zero : wordPayload v ≡ 0 = eqb-true (wordPayload v) 0 (not-false (eqb (wordPayload v) 0) (k .1 .1 .0)) in
         ap (λ (p : ℕ). wordBytes (word endKind p)) (sym zero)
         ∙ word-back (fromPoint file n) (bytes-from file (headSize + pointSize * n) small) endKind (k .0, (k .1 .0, tt))
 
@@ -230,7 +230,7 @@ writes-back-file file lent out small e k =
     let h = fileHeight file in
     let long = whole-length file short e in
     let none : writeRefusal after w h (noRoom w h (length out)) ≡ 0 =
-    ap (writeRefusal after w h) (le-ltb (length out) (fileSize w h) (omega (arith, long, k))) ∙ taken-again file lent e in (
+    ap (writeRefusal after w h) (le-ltb (length out) (fileSize w h) (omega (arith, long, k))) ∙ accepted-again file lent e in (
       sym (accepted-answer (writeRefusal after w h (noRoom w h (length out))) (fileSize w h ∷ []) none (λ t. long t ∷ [])),
       sym (when-accepted (writeRefusal after w h (noRoom w h (length out))) (over (netFile after w h) out) out none)
           ∙ ap (λ (l : List ℕ). over l out) (file-after file lent e small),

@@ -11,11 +11,11 @@ use borrow.Author.Tests.{ltb-false}
 use Rattle.exact.specs.Filling.{over}
 use Rattle.exact.proofs.FillingLaws.{take-over, length-over}
 use Rattle.net.specs.Net.{numbers}
-use Rattle.net.specs.TurnedAway.{badSize, shortNet, netBeyond, outputAfter}
+use Rattle.net.specs.Refusals.{badSize, shortNet, netBeyond, outputAfter}
 use Rattle.net.proofs.Faults.{clear-none, or-none, answered, not-accepted, accepted-answer, refused-answer, when-accepted, when-refused}
 use Rattle.words.specs.NetFile.{netFile, fileSize}
 use Rattle.words.specs.Answers.{answer}
-use Rattle.writer.specs.TurnedAway.{writeFaults, writeRefusal, noRoom}
+use Rattle.writer.specs.Refusals.{writeFaults, writeRefusal, noRoom}
 use Rattle.writer.specs.Answers.{writeAnswerWith, writeOutputWith}
 use Rattle.writer.proofs.WriteLaws.{file-length, write-clear}
 use Rattle.reader.specs.Answers.{readAnswer, readNet}
@@ -83,8 +83,8 @@ module _ (net : List ℤ) (w h : ℕ) (out : List ℕ) (back : List ℤ) where
     part : take (n - 0) l ≡ netFile net w h
     part = (λ t. take (count t - 0) (laid t)) ∙ written-part none
 
-    pub copied : {told : ℕ × List ℕ} {m : List ℤ} → told ≡ readAnswer (take (n - 0) l) back → m ≡ readNet (take (n - 0) l) back →
-        (told ≡ answer refusal (w ∷ h ∷ [])) × (l ≡ outputAfter refusal (netFile net w h) out) × (m ≡ outputAfter refusal (take (numbers w h) net) back)
+    pub copied : {outcome : ℕ × List ℕ} {m : List ℤ} → outcome ≡ readAnswer (take (n - 0) l) back → m ≡ readNet (take (n - 0) l) back →
+        (outcome ≡ answer refusal (w ∷ h ∷ [])) × (l ≡ outputAfter refusal (netFile net w h) out) × (m ≡ outputAfter refusal (take (numbers w h) net) back)
     copied p q =
         let found = reads-back-net net w h back (fits none .0) (fits none .1) in (
           p
@@ -102,10 +102,10 @@ module _ (net : List ℤ) (w h : ℕ) (out : List ℕ) (back : List ℤ) where
   pub not-copied : {n : ℕ} {l : List ℕ} → _≡_ {A = ℕ × List ℕ} (n, []) (writeAnswerWith net w h short) → l ≡ writeOutputWith net w h short out →
       (_≡_ {A = ℕ × List ℕ} (n, []) (answer refusal (w ∷ h ∷ []))) × (l ≡ outputAfter refusal (netFile net w h) out) × (back ≡ outputAfter refusal (take (numbers w h) net) back)
   not-copied {n} {l} e f =
-      let told : n ≡ refusal = (λ t. e t .0) ∙ same-refusal in
+      let outcome : n ≡ refusal = (λ t. e t .0) ∙ same-refusal in
       let there = not-accepted (writeRefusal net w h short) (fileSize w h ∷ []) (lit< tt) e in
       let refused : refusal ≡ 0 → ⊥ = λ z. there (same-refusal ∙ z) in (
-        refused-answer refusal (w ∷ h ∷ []) told (λ z. refused (sym told ∙ z)),
+        refused-answer refusal (w ∷ h ∷ []) outcome (λ z. refused (sym outcome ∙ z)),
         f ∙ ap (λ (r : ℕ). outputAfter r (netFile net w h) out) same-refusal,
         when-refused refusal (over (take (numbers w h) net) back) back refused,
       )

@@ -13,17 +13,17 @@ use borrow.Author.Tests.{le-ltb, eq-eqb}
 use Rattle.exact.specs.Filling.{over, runs}
 use Rattle.exact.proofs.FillingLaws.{Begins, run-begins, runs-of-parts, runs-of-list, runs-same}
 use Rattle.net.specs.Net.{number, numbers, pointStride}
-use Rattle.net.specs.TurnedAway.{badSide, beyond}
+use Rattle.net.specs.Refusals.{badSide, beyond}
 use Rattle.net.proofs.Beyond.{cut}
 use Rattle.net.proofs.Faults.{Clear, clear-none, clear-append, clear-runs, or-none, when-accepted, accepted-answer}
 use Rattle.net.proofs.Places.{GoodSize, good-size}
 use Rattle.net.proofs.Ranges.{in-range}
-use Rattle.words.specs.NetFile.{word, kindOf, payloadOf, widthKind, heightKind, xKind, yKind, zKind, endKind, complement, signed, wordBytes, firstWord, points, numberBytes, pointBytes, netFile, fileSize, fileWidth, fileHeight, firstNumber, firstPoint, fromPoint, fileNumbers, headSize, pointSize}
-use Rattle.words.specs.TurnedAway.{wordFaults}
+use Rattle.words.specs.NetFile.{word, wordKind, wordPayload, widthKind, heightKind, xKind, yKind, zKind, endKind, complement, signed, wordBytes, firstWord, points, numberBytes, pointBytes, netFile, fileSize, fileWidth, fileHeight, firstNumber, firstPoint, fromPoint, fileNumbers, headSize, pointSize}
+use Rattle.words.specs.Refusals.{wordFaults}
 use Rattle.words.proofs.WordLaws.{kind-of-word, payload-of-word, first-of-bytes, complement-small, signed-complement}
-use Rattle.writer.specs.TurnedAway.{writeRefusal}
+use Rattle.writer.specs.Refusals.{writeRefusal}
 use Rattle.writer.proofs.WriteLaws.{word-length, point-length, points-length, GoodNet, good-net}
-use Rattle.reader.specs.TurnedAway.{sideFaults, numberFaults, pointFaults, endFaults, headFaults, bodyFaults, readFaults, readRefusal, shortFor}
+use Rattle.reader.specs.Refusals.{sideFaults, numberFaults, pointFaults, endFaults, headFaults, bodyFaults, readFaults, readRefusal, shortFor}
 use Rattle.netfile.specs.Promises.{Writable, ReadsBack, OneNet}
 
 -- ---- words at the front
@@ -35,8 +35,8 @@ module _ (kind : ℕ) (h : kind < 16) (payload : ℕ) (k : payload < 268435456) 
   word-found : firstWord left ≡ word kind payload
   word-found = first-of-bytes (word kind payload) after (omega (arith, h, k))
 
-  payload-found : payloadOf (firstWord left) ≡ payload
-  payload-found = ap payloadOf word-found ∙ payload-of-word kind k
+  payload-found : wordPayload (firstWord left) ≡ payload
+  payload-found = ap wordPayload word-found ∙ payload-of-word kind k
 
   word-there : 4 ≤ length left
   word-there = omega (arith, length-append (wordBytes (word kind payload)) after, word-length (word kind payload))
@@ -44,7 +44,7 @@ module _ (kind : ℕ) (h : kind < 16) (payload : ℕ) (k : payload < 268435456) 
   word-clear : Clear (wordFaults left kind)
   word-clear = (
     le-ltb (length left) 4 word-there,
-    (ap not (eq-eqb (kindOf (firstWord left)) kind (ap kindOf word-found ∙ kind-of-word kind k)), tt),
+    (ap not (eq-eqb (wordKind (firstWord left)) kind (ap wordKind word-found ∙ kind-of-word kind k)), tt),
   )
 
 -- a number's word
@@ -170,12 +170,12 @@ module _ (net : List ℤ) (w h : ℕ) (taken : Writable net w h) where
   -- the sides
   width-found : fileWidth file ≡ w
   width-found =
-      ap (λ (l : List ℕ). payloadOf (firstWord l)) from-first
+      ap (λ (l : List ℕ). wordPayload (firstWord l)) from-first
       ∙ payload-found widthKind (lit< tt) w (omega (arith, size .narrow)) (heightBytes ++ (body ++ endBytes))
 
   height-found : fileHeight file ≡ h
   height-found =
-      ap (λ (l : List ℕ). payloadOf (firstWord l)) from-second ∙ payload-found heightKind (lit< tt) h (omega (arith, size .low)) (body ++ endBytes)
+      ap (λ (l : List ℕ). wordPayload (firstWord l)) from-second ∙ payload-found heightKind (lit< tt) h (omega (arith, size .low)) (body ++ endBytes)
 
   -- no number is beyond its range
   small : (i : ℕ) → i < numbers w h → natAbs (number net i) ≤ 16777216

@@ -7,10 +7,10 @@ use lib.Dec.{ltb}
 use lib.IntN.{ℤ, pos}
 use lib.ListN.{length, replicate}
 use Rattle.net.specs.Net.{numbers}
-use Rattle.net.specs.TurnedAway.{netBeyond}
-use Rattle.writer.specs.TurnedAway.{noRoom, writeRefusal}
+use Rattle.net.specs.Refusals.{netBeyond}
+use Rattle.writer.specs.Refusals.{noRoom, writeRefusal}
 
--- writing and then reading what was written: 5 is told of either output
+-- writing and then reading what was written: 5 is of either output
 abbrev pub copyRefusal : List ℤ → ℕ → ℕ → List ℕ → List ℤ → ℕ
 copyRefusal net w h out back = writeRefusal net w h (ltb (length back) (numbers w h) || noRoom w h (length out))
 

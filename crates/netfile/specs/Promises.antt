@@ -9,9 +9,9 @@ use lib.ListN.{length, take}
 use Rattle.exact.specs.Filling.{over}
 use Rattle.net.specs.Net.{numbers}
 use Rattle.words.specs.NetFile.{netFile, fileWidth, fileHeight, AllBytes}
-use Rattle.writer.specs.TurnedAway.{writeRefusal}
+use Rattle.writer.specs.Refusals.{writeRefusal}
 use Rattle.writer.specs.Answers.{writeAnswer, writeOutput}
-use Rattle.reader.specs.TurnedAway.{shortFor, readRefusal}
+use Rattle.reader.specs.Refusals.{shortFor, readRefusal}
 use Rattle.reader.specs.Answers.{readAnswer, readNet}
 
 -- a net that the writer takes, given room

@@ -11,10 +11,10 @@ ghost use mathlib.Core.Bool.{false, cond};
 ghost use lib.Dec.{ltb};
 ghost use lib.ListN.{take};
 ghost use Rattle.net.specs.Net.{numbers};
-ghost use Rattle.net.specs.TurnedAway.{badSize, outputAfter};
+ghost use Rattle.net.specs.Refusals.{badSize, outputAfter};
 ghost use Rattle.words.specs.NetFile.{netFile};
 ghost use Rattle.words.specs.Answers.{answer};
-ghost use Rattle.reader.specs.Answers.{readTold};
+ghost use Rattle.reader.specs.Answers.{readOutcome};
 ghost use Rattle.netfile.specs.Answers.{copyRefusal};
 
 // Whether a net of this size does not fit `room` numbers; a bad size is refused before that counts.
@@ -36,7 +36,7 @@ pub fn copy_through_file(
     out: &mut [u8],
     back: &mut [i32],
 ) -> ReadAnswer
-    ensures { λ r. ⌜ readTold r ≡ answer (copyRefusal (now (net .entry)) w h (now (out .entry)) (now (back .entry))) (w ∷ h ∷ []) ⌝ }
+    ensures { λ r. ⌜ readOutcome r ≡ answer (copyRefusal (now (net .entry)) w h (now (out .entry)) (now (back .entry))) (w ∷ h ∷ []) ⌝ }
     ensures { λ r. ⌜ now (out .exit) ≡ outputAfter (copyRefusal (now (net .entry)) w h (now (out .entry)) (now (back .entry))) (netFile (now (net .entry)) w h) (now (out .entry)) ⌝ }
     ensures { λ r. ⌜ now (back .exit) ≡ outputAfter (copyRefusal (now (net .entry)) w h (now (out .entry)) (now (back .entry))) (take (numbers w h) (now (net .entry))) (now (back .entry)) ⌝ }
 {

@@ -1,4 +1,4 @@
--- The definitions that contracts cite: places, what is turned away, and what the functions of places hand on.
+-- The definitions that contracts cite: places, the refusal of a place, and what the functions of places hand on.
 pub mod Places
-pub mod TurnedAway
+pub mod Refusals
 pub mod Located

@@ -5,8 +5,8 @@ use mathlib.Core.List.{List, [], _∷_}
 use Prim.Native.Nat.{ℕ}
 use lib.IntN.{ℤ}
 use Rattle.net.specs.Net.{Index, one, two, three, rank, isNext}
-use Rattle.net.specs.TurnedAway.{firstFault, badSize, shortNet}
-use Rattle.places.specs.TurnedAway.{noPlace}
+use Rattle.net.specs.Refusals.{firstFault, badSize, shortNet}
+use Rattle.places.specs.Refusals.{noPlace}
 use Rattle.places.specs.Places.{Order, cornerP, cornerQ, cornerT, cell, rest, isDown, share, gapA, gapB, gapG}
 
 -- the refusals of a place but for the range: 1, 6, 2

@@ -4,9 +4,9 @@ use net::short_net;
 ghost use mathlib.Core.Path.{_≡_};
 ghost use mathlib.Core.Bool.{false};
 ghost use Prim.Native.Nat.{_≤_};
-ghost use Rattle.net.specs.TurnedAway.{badSize};
+ghost use Rattle.net.specs.Refusals.{badSize};
 ghost use Rattle.places.specs.Places.{cell, orderOf};
-ghost use Rattle.places.specs.TurnedAway.{noPlace};
+ghost use Rattle.places.specs.Refusals.{noPlace};
 ghost use Rattle.places.specs.Located.{shares, Placed, InOrder, placeRefusal};
 
 // A place's cell, the kind of its triangle, and the shares of corners 1, 2, 3.

@@ -1,4 +1,4 @@
--- What a parsed word and a refusal number tell of the faults that were looked for, and of those that come after them.
+-- What a parsed word and a refusal number say of the faults that were looked for, and of those that come after them.
 use mathlib.Core.Path.{_≡_, sym, ap, _∙_}
 use mathlib.Core.Bool.{not}
 use mathlib.Core.List.{List, [], _∷_, _++_}
@@ -8,13 +8,13 @@ use lib.Dec.{eqb, lit≤, lit<}
 use lib.ListN.{length-take, length, getD, take, drop, length-drop}
 use lib.Seq.{take-all, getD-take, getD-drop}
 use borrow.Author.Tests.{ltb-false, le-ltb}
-use Rattle.net.specs.TurnedAway.{Fault, firstFault, beyond}
+use Rattle.net.specs.Refusals.{Fault, firstFault, beyond}
 use Rattle.net.proofs.Faults.{Clear, Numbered, none-clear, clear-parts, numbered-append, answered, not-accepted, fault-before}
-use Rattle.words.specs.NetFile.{kindOf, payloadOf, signed, firstWord, xKind, yKind, zKind, fromPoint, headSize, pointSize}
-use Rattle.words.specs.TurnedAway.{wordFaults}
+use Rattle.words.specs.NetFile.{wordKind, wordPayload, signed, firstWord, xKind, yKind, zKind, fromPoint, headSize, pointSize}
+use Rattle.words.specs.Refusals.{wordFaults}
 use Rattle.words.specs.Answers.{answer}
 use Rattle.words.proofs.WordLaws.{same-first}
-use Rattle.reader.specs.TurnedAway.{sideFaults, numberFaults, pointFaults}
+use Rattle.reader.specs.Refusals.{sideFaults, numberFaults, pointFaults}
 
 -- ---- an answer that was matched
 
@@ -29,9 +29,9 @@ module _ (fs : List Fault) where
   pub refused : (gs : List Fault) (v : ℕ) (values : List ℕ) {n : ℕ} → _≡_ {A = ℕ × List ℕ} (n, []) (answer (firstFault fs) (v ∷ values)) →
       (n ≡ firstFault (fs ++ gs)) × (n ≡ 0 → ⊥)
   refused gs v values {n} e =
-      let told : n ≡ firstFault fs = λ t. e t .0 in
+      let outcome : n ≡ firstFault fs = λ t. e t .0 in
       let there = not-accepted (firstFault fs) (v ∷ values) (omega arith) e in
-      (told ∙ fault-before fs gs there, λ z. there (sym told ∙ z))
+      (outcome ∙ fault-before fs gs there, λ z. there (sym outcome ∙ z))
 
   -- ---- a refusal number
 
@@ -88,7 +88,7 @@ word-within left n k h =
 number-same : (l m : List ℕ) (kind : ℕ) → 4 ≤ length l → 4 ≤ length m → firstWord l ≡ firstWord m → numberFaults l kind ≡ numberFaults m kind
 number-same l m kind h k v =
     let there = le-ltb (length l) 4 h ∙ sym (le-ltb (length m) 4 k) in
-    λ t. (there t, 7) ∷ (not (eqb (kindOf (v t)) kind), 8) ∷ (beyond (signed (payloadOf (v t))), 3) ∷ []
+    λ t. (there t, 7) ∷ (not (eqb (wordKind (v t)) kind), 8) ∷ (beyond (signed (wordPayload (v t))), 3) ∷ []
 
 pub point-within : (left : List ℕ) → pointSize ≤ length left → pointFaults (take pointSize left) ≡ pointFaults left
 point-within left h =

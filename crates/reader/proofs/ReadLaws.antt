@@ -1,4 +1,4 @@
--- What the reader's faults tell: of the first two words, of the rest, and of the whole file.
+-- What follows from the reader's faults: of the first two words, of the rest, and of the whole file.
 use mathlib.Core.Path.{_≡_, sym, _∙_}
 use mathlib.Core.Bool.{Bool, false, _||_}
 use mathlib.Core.List.{List, [], _∷_}
@@ -10,10 +10,10 @@ use lib.ListN.{length, drop, length-drop}
 use borrow.Author.Tests.{ltb-false}
 use Rattle.exact.specs.Filling.{over, runs}
 use Rattle.net.specs.Net.{numbers}
-use Rattle.net.specs.TurnedAway.{firstFault, badSide, badSize}
+use Rattle.net.specs.Refusals.{firstFault, badSide, badSize}
 use Rattle.net.proofs.Faults.{Clear, Numbered, none-clear, clear-parts, clear-run, fault-after, numbered-append, numbered-runs, answered, accepted-answer, refused-answer, when-accepted, when-refused, or-no, or-none}
 use Rattle.words.specs.NetFile.{points, fileWidth, fileHeight, fileNumbers, fromPoint, headSize, pointSize}
-use Rattle.reader.specs.TurnedAway.{pointFaults, endFaults, headFaults, bodyFaults, readFaults, readRefusal, shortFor}
+use Rattle.reader.specs.Refusals.{pointFaults, endFaults, headFaults, bodyFaults, readFaults, readRefusal, shortFor}
 use Rattle.reader.specs.Answers.{headAnswer, readAnswerWith, readNetWith}
 use Rattle.reader.proofs.Parsing.{refused, point-numbered, next-begins}
 
@@ -90,9 +90,9 @@ module _ (file : List ℕ) (short : Bool) (net : List ℤ) where
       let q = answered (firstFault (headFaults file short)) sides e in
       (none-clear (headFaults file short) (head-numbered file short) (q .0), q .1)
 
-  turned-away : {n : ℕ} → n ≡ readRefusal file short → (n ≡ 0 → ⊥) →
+  file-refused : {n : ℕ} → n ≡ readRefusal file short → (n ≡ 0 → ⊥) →
       (_≡_ {A = ℕ × List ℕ} (n, []) (readAnswerWith file short)) × (net ≡ readNetWith file short net)
-  turned-away e there = (
+  file-refused e there = (
     refused-answer (readRefusal file short) sides e there,
     when-refused (readRefusal file short) (over (fileNumbers file) net) net (λ z. there (e ∙ z)),
   )
@@ -102,12 +102,12 @@ module _ (file : List ℕ) (short : Bool) (net : List ℤ) where
       (_≡_ {A = ℕ × List ℕ} (n, []) (readAnswerWith file short)) × (net ≡ readNetWith file short net)
   head-refused e =
       let q = refused (headFaults file short) (bodyFaults file body) (fileWidth file) (fileHeight file ∷ []) e in
-      turned-away (q .0) (q .1)
+      file-refused (q .0) (q .1)
 
   -- the rest was refused
   pub body-refused : {n : ℕ} → Clear (headFaults file short) → n ≡ firstFault (bodyFaults file body) → (n ≡ 0 → ⊥) →
       (_≡_ {A = ℕ × List ℕ} (n, []) (readAnswerWith file short)) × (net ≡ readNetWith file short net)
-  body-refused k e there = turned-away (e ∙ fault-after (headFaults file short) (bodyFaults file body) k) there
+  body-refused k e there = file-refused (e ∙ fault-after (headFaults file short) (bodyFaults file body) k) there
 
   -- or there is no fault
   pub taken : {l : List ℤ} {values : List ℕ} → Clear (headFaults file short) → firstFault (bodyFaults file body) ≡ 0 → values ≡ sides →

@@ -5,17 +5,17 @@ use mathlib.Core.List.{List, [], _∷_}
 use Prim.Native.Nat.{ℕ}
 use lib.IntN.{ℤ}
 use lib.ListN.{length}
-use Rattle.net.specs.TurnedAway.{firstFault, outputAfter}
+use Rattle.net.specs.Refusals.{firstFault, outputAfter}
 use Rattle.words.specs.NetFile.{fileWidth, fileHeight, fileNumbers}
 use Rattle.words.specs.Answers.{answer}
-use Rattle.reader.specs.TurnedAway.{headFaults, readRefusal, shortFor}
+use Rattle.reader.specs.Refusals.{headFaults, readRefusal, shortFor}
 use Rattle.reader.specs.declared.answers.ReadAnswer.{ReadAnswer}
 use Rattle.reader.specs.declared.answers.ReadAnswer.the-variants as found
 
 -- document 01's number of an answer, 0 where nothing is refused, and its values: the width and the height
-abbrev pub readTold : ReadAnswer → ℕ × List ℕ
-readTold (found.Size w h) = (0, w ∷ h ∷ [])
-readTold (found.Refused n) = (n, [])
+abbrev pub readOutcome : ReadAnswer → ℕ × List ℕ
+readOutcome (found.Size w h) = (0, w ∷ h ∷ [])
+readOutcome (found.Refused n) = (n, [])
 
 -- what the first two words answer, up to 5
 abbrev pub headAnswer : List ℕ → Bool → ℕ × List ℕ
@@ -35,6 +35,6 @@ readAnswer file net = readAnswerWith file (shortFor file (length net))
 abbrev pub readNet : List ℕ → List ℤ → List ℤ
 readNet file net = readNetWith file (shortFor file (length net)) net
 
--- worked cases: what answers tell, accepted and refused
-told : (readTold (found.Size 2 3) ≡ (0, 2 ∷ 3 ∷ [])) × (readTold (found.Refused 5) ≡ (5, []))
-told = (refl, refl)
+-- worked cases: outcomes of answers, accepted and refused
+outcomes : (readOutcome (found.Size 2 3) ≡ (0, 2 ∷ 3 ∷ [])) × (readOutcome (found.Refused 5) ≡ (5, []))
+outcomes = (refl, refl)

@@ -2,9 +2,9 @@
 mod answers;
 mod reading;
 
-// The call of document 01: it asks nothing of its caller.
+// The call of document 01: no preconditions.
 pub use answers::ReadAnswer;
 pub use reading::read;
 
-// For the crates above, whose callers lend one output more. It asks nothing either.
+// For the crates above, whose callers lend one output more: no preconditions either.
 pub use reading::read_with;

@@ -1,5 +1,5 @@
-// The reader: the whole file is looked through before the first number is stored. What the inner functions ask is met
-// by those below them in this file.
+// The reader: the whole file is checked before the first number is stored. Callers in this file establish the
+// preconditions of the inner functions.
 use crate::answers::ReadAnswer;
 use net::POINT_STRIDE;
 use net::STRIDE;
@@ -20,15 +20,15 @@ ghost use lib.Dec.{ltb};
 ghost use lib.ListN.{length};
 ghost use Rattle.exact.specs.Filling.{over, runs};
 ghost use Rattle.net.specs.Net.{numbers, pointStride};
-ghost use Rattle.net.specs.TurnedAway.{badSize, firstFault};
-ghost use Rattle.words.specs.NetFile.{payloadOf, firstWord, firstPoint, fromPoint, headSize, pointSize, pointPlace};
-ghost use Rattle.words.specs.Answers.{wordTold, answer};
-ghost use Rattle.reader.specs.TurnedAway.{sideFaults, numberFaults, pointFaults, endFaults, bodyFaults, shortFor};
-ghost use Rattle.reader.specs.Answers.{readTold, headAnswer, readAnswerWith, readNetWith, readAnswer, readNet};
+ghost use Rattle.net.specs.Refusals.{badSize, firstFault};
+ghost use Rattle.words.specs.NetFile.{wordPayload, firstWord, firstPoint, fromPoint, headSize, pointSize, pointPlace};
+ghost use Rattle.words.specs.Answers.{wordOutcome, answer};
+ghost use Rattle.reader.specs.Refusals.{sideFaults, numberFaults, pointFaults, endFaults, bodyFaults, shortFor};
+ghost use Rattle.reader.specs.Answers.{readOutcome, headAnswer, readAnswerWith, readNetWith, readAnswer, readNet};
 
 // A side's word: its payload, or 7, 8 or 1.
 fn parse_side(left: &[u8], kind: u32) -> Parsed
-    ensures { λ r. ⌜ wordTold r ≡ answer (firstFault (sideFaults (now (left .entry)) kind)) (payloadOf (firstWord (now (left .entry))) ∷ []) ⌝ }
+    ensures { λ r. ⌜ wordOutcome r ≡ answer (firstFault (sideFaults (now (left .entry)) kind)) (wordPayload (firstWord (now (left .entry))) ∷ []) ⌝ }
 {
     let parsed = parse_word(left, kind);
     match parsed {
@@ -45,7 +45,7 @@ fn parse_side(left: &[u8], kind: u32) -> Parsed
 // The two sides where the lent net has room for their numbers, or 5. For sides that passed their test.
 fn sized(w: usize, h: usize, short: bool, room: usize) -> ReadAnswer
     requires { ⌜ badSize w h ≡ false ⌝ }
-    ensures { λ r. ⌜ readTold r ≡ answer (firstFault ((short || ltb room (numbers w h), 5) ∷ [])) (w ∷ h ∷ []) ⌝ }
+    ensures { λ r. ⌜ readOutcome r ≡ answer (firstFault ((short || ltb room (numbers w h), 5) ∷ [])) (w ∷ h ∷ []) ⌝ }
 {
     if short {
         return ReadAnswer::Refused(5);
@@ -58,7 +58,7 @@ fn sized(w: usize, h: usize, short: bool, room: usize) -> ReadAnswer
 
 // The two sides, or the first fault up to 5.
 fn parse_head(file: &[u8], short: bool, room: usize) -> ReadAnswer
-    ensures { λ r. ⌜ readTold r ≡ headAnswer (now (file .entry)) (short || shortFor (now (file .entry)) room) ⌝ }
+    ensures { λ r. ⌜ readOutcome r ≡ headAnswer (now (file .entry)) (short || shortFor (now (file .entry)) room) ⌝ }
 {
     let width = parse_side(file, 1);
     match width {
@@ -206,7 +206,7 @@ fn load_points(file: &[u8], n: usize, net: &mut [i32])
 // The same as `read`, for the crates above: `short` is whether another output that they were lent is too short, which
 // is 5 too.
 pub fn read_with(file: &[u8], short: bool, net: &mut [i32]) -> ReadAnswer
-    ensures { λ r. ⌜ readTold r ≡ readAnswerWith (now (file .entry)) (short || shortFor (now (file .entry)) (length (now (net .entry)))) ⌝ }
+    ensures { λ r. ⌜ readOutcome r ≡ readAnswerWith (now (file .entry)) (short || shortFor (now (file .entry)) (length (now (net .entry)))) ⌝ }
     ensures { λ r. ⌜ now (net .exit) ≡ readNetWith (now (file .entry)) (short || shortFor (now (file .entry)) (length (now (net .entry)))) (now (net .entry)) ⌝ }
 {
     let head = parse_head(file, short, net.len());
@@ -226,7 +226,7 @@ pub fn read_with(file: &[u8], short: bool, net: &mut [i32]) -> ReadAnswer
 
 // The net of a file over the front of `net`, or the first fault in the order of the bytes.
 pub fn read(file: &[u8], net: &mut [i32]) -> ReadAnswer
-    ensures { λ r. ⌜ readTold r ≡ readAnswer (now (file .entry)) (now (net .entry)) ⌝ }
+    ensures { λ r. ⌜ readOutcome r ≡ readAnswer (now (file .entry)) (now (net .entry)) ⌝ }
     ensures { λ r. ⌜ now (net .exit) ≡ readNet (now (file .entry)) (now (net .entry)) ⌝ }
 {
     read_with(file, false, net)

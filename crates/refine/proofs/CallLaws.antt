@@ -6,7 +6,7 @@ use Prim.Native.Nat.{ℕ}
 use lib.IntN.{ℤ}
 use borrow.Author.Tests.{ne-eqb}
 use Rattle.exact.specs.Filling.{over}
-use Rattle.net.specs.TurnedAway.{accepted, outputAfter}
+use Rattle.net.specs.Refusals.{accepted, outputAfter}
 use Rattle.net.proofs.Faults.{when-accepted, when-refused}
 use Rattle.steps.specs.RefinedNet.{scratchNeed}
 use Rattle.steps.specs.Steps.{UnchangedFrom}

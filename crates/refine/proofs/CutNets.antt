@@ -5,13 +5,13 @@ use mathlib.Core.List.{List, [], _∷_, _++_}
 use Prim.Native.Nat.{ℕ, zero, suc}
 use lib.IntN.{ℤ}
 use Rattle.net.specs.Net.{vertexAt, Field, field}
-use Rattle.net.specs.TurnedAway.{firstFault}
+use Rattle.net.specs.Refusals.{firstFault}
 use Rattle.net.proofs.Beyond.{cut, cut-short, cut-beyond, cut-field}
 use Rattle.net.proofs.Places.{vertex-ends}
 use Rattle.subdivision.specs.Refinement.{sideAfter, refinements}
 use Rattle.steps.specs.RefinedNet.{refinedNet}
 use Rattle.steps.proofs.StoredNets.{Agree, stored-same, refinement-local}
-use Rattle.refine.specs.TurnedAway.{netFaults, refineRefusal, sizeFaults}
+use Rattle.refine.specs.Refusals.{netFaults, refineRefusal, sizeFaults}
 
 -- k steps look only at vertices of the net
 refinements-local : (k w h : ℕ) (F G : Field) → Agree w h F G → Agree (sideAfter k w) (sideAfter k h) (refinements k F) (refinements k G)

@@ -4,12 +4,12 @@ use mathlib.Core.Bool.{false, _||_}
 use Prim.Native.Nat.{ℕ}
 use lib.Dec.{ltb}
 use borrow.Author.Tests.{ltb-false, le-ltb}
-use Rattle.net.specs.TurnedAway.{badSize}
+use Rattle.net.specs.Refusals.{badSize}
 use Rattle.net.proofs.Faults.{or-none, or-no}
 use Rattle.net.proofs.Places.{good-size}
 use Rattle.subdivision.specs.Refinement.{sideAfter}
 use Rattle.steps.specs.Steps.{Depth}
-use Rattle.refine.specs.TurnedAway.{tooDeep}
+use Rattle.refine.specs.Refusals.{tooDeep}
 
 pub good-depth : (w h k : ℕ) → badSize w h ≡ false → tooDeep w h k ≡ false → Depth w h k
 good-depth w h k e f =

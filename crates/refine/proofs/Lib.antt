@@ -1,5 +1,5 @@
 -- The laws of refining: sizes and steps that are not refused, answers, and numbers that do not matter.
 pub mod Depths
 pub mod CallLaws
-pub mod Taken
+pub mod Refinable
 pub mod CutNets

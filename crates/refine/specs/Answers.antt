@@ -6,16 +6,16 @@ use Prim.Native.Nat.{ℕ}
 use lib.IntN.{ℤ}
 use lib.ListN.{length}
 use Rattle.net.specs.Net.{numbers}
-use Rattle.net.specs.TurnedAway.{accepted, outputAfter}
+use Rattle.net.specs.Refusals.{accepted, outputAfter}
 use Rattle.steps.specs.RefinedNet.{refinedNet, scratchNeed}
-use Rattle.refine.specs.TurnedAway.{tooShort, refineRefusal}
+use Rattle.refine.specs.Refusals.{tooShort, refineRefusal}
 use Rattle.refine.specs.declared.answers.RefineAnswer.{RefineAnswer}
 use Rattle.refine.specs.declared.answers.RefineAnswer.the-variants as answer
 
 -- document 01's number of an answer, 0 where nothing is refused, and whether the call was carried out
-abbrev pub refineTold : RefineAnswer → ℕ × Bool
-refineTold answer.Done = (0, true)
-refineTold (answer.Refused n) = (n, false)
+abbrev pub refineOutcome : RefineAnswer → ℕ × Bool
+refineOutcome answer.Done = (0, true)
+refineOutcome (answer.Refused n) = (n, false)
 
 -- the first fault of refining into a lent output and with a lent scratch
 abbrev pub refusalOf : List ℤ → ℕ → ℕ → ℕ → List ℤ → List ℤ → ℕ
@@ -33,9 +33,9 @@ refineOutput net w h k out scratch = outputAfter (refusalOf net w h k out scratc
 abbrev pub freeScratch : ℕ → ℕ → ℕ → ℕ → ℕ
 freeScratch refusal k w h = cond (accepted refusal) (scratchNeed k w h) 0
 
--- worked cases: what answers tell; two steps of 2 by 2, a refusal, and one step
-told : (refineTold answer.Done ≡ (0, true)) × (refineTold (answer.Refused 4) ≡ (4, false))
-told = (refl, refl)
+-- worked cases: outcomes of answers; two steps of 2 by 2, a refusal, and one step
+outcomes : (refineOutcome answer.Done ≡ (0, true)) × (refineOutcome (answer.Refused 4) ≡ (4, false))
+outcomes = (refl, refl)
 
 free : (freeScratch 0 2 2 2 ≡ numbers 3 3) × (freeScratch 5 2 2 2 ≡ 0) × (freeScratch 0 1 2 2 ≡ 0)
 free = (refl, refl, refl)

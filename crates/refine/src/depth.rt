@@ -1,5 +1,5 @@
-// The refusals of refining: sides after k steps, lengths and the range. What the inner functions ask is met by those
-// below them, and what `net_refusal` asks by `refine` and `refined_point`.
+// The refusals of refining: sides after k steps, lengths and the range. Callers in this file establish the
+// preconditions of the inner functions, and `refine` and `refined_point` that of `net_refusal`.
 use net::STRIDE;
 use net::bad_size;
 use net::net_beyond;
@@ -8,9 +8,9 @@ use steps::side_after;
 ghost use mathlib.Core.Path.{_≡_};
 ghost use mathlib.Core.Bool.{false, _||_};
 ghost use lib.Dec.{ltb};
-ghost use Rattle.net.specs.TurnedAway.{firstFault, badSize};
+ghost use Rattle.net.specs.Refusals.{firstFault, badSize};
 ghost use Rattle.steps.specs.RefinedNet.{numbersAfter};
-ghost use Rattle.refine.specs.TurnedAway.{tooDeep, tooShort, sizeFaults, netFaults};
+ghost use Rattle.refine.specs.Refusals.{tooDeep, tooShort, sizeFaults, netFaults};
 
 // Whether k is above 6 or a refined side above 1,025: k first, before a side is doubled k times.
 fn too_deep(w: usize, h: usize, k: usize) -> bool
@@ -48,9 +48,9 @@ fn shorter_than(room: usize, w: usize, h: usize, k: usize) -> bool
 }
 
 // Whether the output or the scratch is too short.
-fn too_short(w: usize, h: usize, k: usize, room: usize, spare: usize) -> bool
+fn too_short(w: usize, h: usize, k: usize, room: usize, scratch: usize) -> bool
     requires { ⌜ (badSize w h ≡ false) × (tooDeep w h k ≡ false) ⌝ }
-    ensures { λ r. ⌜ r ≡ tooShort w h k room spare ⌝ }
+    ensures { λ r. ⌜ r ≡ tooShort w h k room scratch ⌝ }
 {
     if shorter_than(room, w, h, k) {
         return true;
@@ -58,7 +58,7 @@ fn too_short(w: usize, h: usize, k: usize, room: usize, spare: usize) -> bool
     if k < 2 {
         return false;
     }
-    shorter_than(spare, w, h, k - 1)
+    shorter_than(scratch, w, h, k - 1)
 }
 
 // The first of 2, 5 and 3, or 0; `short` is whether another output is too short. For `refine` and `refined_point`,
@@ -70,10 +70,10 @@ pub fn net_refusal(
     k: usize,
     short: bool,
     room: usize,
-    spare: usize,
+    scratch: usize,
 ) -> u32
     requires { ⌜ (badSize w h ≡ false) × (tooDeep w h k ≡ false) ⌝ }
-    ensures { λ r. ⌜ r ≡ firstFault (netFaults (now (net .entry)) w h (short || tooShort w h k room spare)) ⌝ }
+    ensures { λ r. ⌜ r ≡ firstFault (netFaults (now (net .entry)) w h (short || tooShort w h k room scratch)) ⌝ }
 {
     if short_net(net, w, h) {
         return 2;
@@ -81,7 +81,7 @@ pub fn net_refusal(
     if short {
         return 5;
     }
-    if too_short(w, h, k, room, spare) {
+    if too_short(w, h, k, room, scratch) {
         return 5;
     }
     if net_beyond(net, w, h) {

@@ -3,7 +3,7 @@ mod answers;
 mod depth;
 mod refining;
 
-// The call of document 01: it asks nothing of its caller.
+// The call of document 01: no preconditions.
 pub use answers::RefineAnswer;
 pub use refining::refine;
 

@@ -5,18 +5,18 @@ use crate::depth::size_refusal;
 use steps::refine_steps;
 ghost use mathlib.Core.Path.{_≡_};
 ghost use Rattle.steps.specs.Steps.{UnchangedFrom};
-ghost use Rattle.refine.specs.TurnedAway.{tooShort, refineRefusal};
-ghost use Rattle.refine.specs.Answers.{refineTold, refusalOf, refineAnswer, refineOutput, freeScratch};
+ghost use Rattle.refine.specs.Refusals.{tooShort, refineRefusal};
+ghost use Rattle.refine.specs.Answers.{refineOutcome, refusalOf, refineAnswer, refineOutput, freeScratch};
 
 // The number of the first fault, 1, 4, 2, 5 or 3, or 0 where there is none.
-fn refusal_of(net: &[i32], w: usize, h: usize, k: usize, room: usize, spare: usize) -> u32
-    ensures { λ r. ⌜ r ≡ refineRefusal (now (net .entry)) w h k (tooShort w h k room spare) ⌝ }
+fn refusal_of(net: &[i32], w: usize, h: usize, k: usize, room: usize, scratch: usize) -> u32
+    ensures { λ r. ⌜ r ≡ refineRefusal (now (net .entry)) w h k (tooShort w h k room scratch) ⌝ }
 {
     let refusal = size_refusal(w, h, k);
     if refusal != 0 {
         return refusal;
     }
-    net_refusal(net, w, h, k, false, room, spare)
+    net_refusal(net, w, h, k, false, room, scratch)
 }
 
 // The k times refined net over the front of `out`, or the first of 1, 4, 2, 5, 3. When k is 2 or more, the first
@@ -29,7 +29,7 @@ pub fn refine(
     out: &mut [i32],
     scratch: &mut [i32],
 ) -> RefineAnswer
-    ensures { λ r. ⌜ refineTold r ≡ refineAnswer (now (net .entry)) w h k (now (out .entry)) (now (scratch .entry)) ⌝ }
+    ensures { λ r. ⌜ refineOutcome r ≡ refineAnswer (now (net .entry)) w h k (now (out .entry)) (now (scratch .entry)) ⌝ }
     ensures { λ r. ⌜ now (out .exit) ≡ refineOutput (now (net .entry)) w h k (now (out .entry)) (now (scratch .entry)) ⌝ }
     ensures { λ r. ⌜ UnchangedFrom (freeScratch (refusalOf (now (net .entry)) w h k (now (out .entry)) (now (scratch .entry))) k w h) (now (scratch .entry)) (now (scratch .exit)) ⌝ }
 {

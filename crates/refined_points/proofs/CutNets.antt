@@ -4,11 +4,11 @@ use mathlib.Core.Bool.{Bool}
 use mathlib.Core.List.{List, _∷_, _++_}
 use Prim.Native.Nat.{ℕ}
 use lib.IntN.{ℤ}
-use Rattle.net.specs.TurnedAway.{firstFault}
+use Rattle.net.specs.Refusals.{firstFault}
 use Rattle.net.proofs.Beyond.{cut}
-use Rattle.refine.specs.TurnedAway.{sizeFaults}
+use Rattle.refine.specs.Refusals.{sizeFaults}
 use Rattle.refine.proofs.CutNets.{cut-faults}
-use Rattle.refined_points.specs.TurnedAway.{refinedPointRefusal, offGrid}
+use Rattle.refined_points.specs.Refusals.{refinedPointRefusal, offGrid}
 
 pub cut-refined-point-refusal : (net : List ℤ) (w h : ℕ) (short : Bool) (k p q : ℕ) →
     refinedPointRefusal net w h k p q short ≡ refinedPointRefusal (cut net w h) w h k p q short

@@ -1,4 +1,4 @@
--- Demand 3 of the calls: what refining leaves in the output is a net that is taken, its surface points are those of the
+-- Demand 3 of the calls: what refining leaves in the output is an accepted net, its surface points are those of the
 -- refined fields, and so they are near the exact spline of the starting net and within its control values.
 use mathlib.Core.Path.{_≡_, refl, sym, ap, subst, _∙_}
 use mathlib.Core.Bool.{Bool, false, _||_}
@@ -13,7 +13,7 @@ use Rattle.exact.specs.Rounding.{rounded}
 use Rattle.exact.specs.Filling.{over}
 use Rattle.exact.proofs.FillingLaws.{length-over, take-over}
 use Rattle.net.specs.Net.{Index, one, two, three, Vertex, vertexAt, Field, corner, numbers, number, field}
-use Rattle.net.specs.TurnedAway.{badSize, beyond, anyBeyond, AcceptedNet}
+use Rattle.net.specs.Refusals.{badSize, beyond, anyBeyond, AcceptedNet}
 use Rattle.net.proofs.Beyond.{cut}
 use Rattle.net.proofs.Faults.{none-clear, or-none, or-no, when-accepted, answered, accepted-answer}
 use Rattle.net.proofs.Grids.{any-grid}
@@ -22,7 +22,7 @@ use Rattle.places.specs.Places.{OnGrid, chosen, share, orderOf}
 use Rattle.places.proofs.Cells.{on-grid}
 use Rattle.spline.specs.Spline.{valueIn, spline}
 use Rattle.surface.specs.SurfacePoint.{coordinate, surfacePoint}
-use Rattle.surface.specs.TurnedAway.{pointRefusal}
+use Rattle.surface.specs.Refusals.{pointRefusal}
 use Rattle.surface.specs.Answers.{pointAnswer}
 use Rattle.surface.proofs.Beyond.{cut-point-answer}
 use Rattle.surface.proofs.SurfacePoints.{accepted-point}
@@ -35,21 +35,21 @@ use Rattle.bounds.proofs.Distance.{our-nets}
 use Rattle.bounds.proofs.DemandThree.{demand-three, refined-in-range}
 use Rattle.steps.specs.RefinedNet.{Fields, pointAt, vertexRun, stored, refinedNet}
 use Rattle.steps.proofs.StoredNets.{stored-field, refined-length}
-use Rattle.refine.specs.TurnedAway.{tooShort, sizeFaults, netFaults}
+use Rattle.refine.specs.Refusals.{tooShort, sizeFaults, netFaults}
 use Rattle.refine.specs.Answers.{refusalOf}
-use Rattle.refine.proofs.Taken.{Taken, taken-by, refine-taken}
-use Rattle.refined_points.specs.TurnedAway.{offGrid, refinedPointRefusal}
+use Rattle.refine.proofs.Refinable.{Refinable, refinable-by, refine-accepted}
+use Rattle.refined_points.specs.Refusals.{offGrid, refinedPointRefusal}
 use Rattle.refined_points.specs.Answers.{refusalAt, refinedSurfacePoint, refinedPointAnswer}
 use Rattle.refined_points.specs.DemandThree.{Claimed, RefinedPoints}
 
-pub point-taken : (net : List ℤ) (w h k p q : ℕ) (short : Bool) (room spare : ℕ) → refinedPointRefusal net w h k p q (short || tooShort w h k room spare) ≡ 0 →
-    Taken net w h k room spare × OnGrid 1024 (sideAfter k w) (sideAfter k h) p q × (short ≡ false)
-point-taken net w h k p q short room spare e =
-    let c = none-clear (sizeFaults w h k ++ (offGrid w h k p q, 6) ∷ netFaults net w h (short || tooShort w h k room spare)) (lit< tt, (lit< tt, (lit< tt, (lit< tt, (lit< tt, (lit< tt, tt)))))) e in
-    let r = or-none short (tooShort w h k room spare) (c .1 .1 .1 .1 .0) in
-    (taken-by net w h k room spare (c .0) (c .1 .0) (c .1 .1 .1 .0) (r .1) (c .1 .1 .1 .1 .1 .0), on-grid 1024 (sideAfter k w) (sideAfter k h) p q (c .1 .1 .0), r .0)
+pub point-accepted : (net : List ℤ) (w h k p q : ℕ) (short : Bool) (room scratchLength : ℕ) → refinedPointRefusal net w h k p q (short || tooShort w h k room scratchLength) ≡ 0 →
+    Refinable net w h k room scratchLength × OnGrid 1024 (sideAfter k w) (sideAfter k h) p q × (short ≡ false)
+point-accepted net w h k p q short room scratchLength e =
+    let c = none-clear (sizeFaults w h k ++ (offGrid w h k p q, 6) ∷ netFaults net w h (short || tooShort w h k room scratchLength)) (lit< tt, (lit< tt, (lit< tt, (lit< tt, (lit< tt, (lit< tt, tt)))))) e in
+    let r = or-none short (tooShort w h k room scratchLength) (c .1 .1 .1 .1 .0) in
+    (refinable-by net w h k room scratchLength (c .0) (c .1 .0) (c .1 .1 .1 .0) (r .1) (c .1 .1 .1 .1 .1 .0), on-grid 1024 (sideAfter k w) (sideAfter k h) p q (c .1 .1 .0), r .0)
 
--- ---- what refining leaves in the output is a net that is taken
+-- ---- what refining leaves in the output is an accepted net
 
 -- the nine numbers of a vertex, and all numbers of a stored net, in range
 abbrev Fine : Fields → Vertex → Type 0
@@ -69,7 +69,7 @@ stored-fine : (F : Fields) (w h : ℕ) → ((i j : ℕ) → i < w → j < h → 
 unfolding stored
 stored-fine F w h f = any-grid (vertexRun F) w h (λ i j a b. vertex-fine F (vertexAt i j) (f i j a b))
 
-module _ (net : List ℤ) (w h k : ℕ) (out : List ℤ) {spare : ℕ} (taken : Taken net w h k (length out) spare) where
+module _ (net : List ℤ) (w h k : ℕ) (out : List ℤ) {scratchLength : ℕ} (taken : Refinable net w h k (length out) scratchLength) where
   abbrev wide : ℕ
   wide = sideAfter k w
 
@@ -156,17 +156,17 @@ module _ (net : List ℤ) (w h k : ℕ) (out : List ℤ) {spare : ℕ} (taken : 
 
 pub refined-points : RefinedPoints
 refined-points net w h k out scratch e p q place =
-    let t = refine-taken net w h k (length out) (length scratch) e in
+    let t = refine-accepted net w h k (length out) (length scratch) e in
     subst (Claimed net w h k p q)
     (point-answered net w h k out t p q place
     ∙ ap (λ (l : List ℤ). pointAnswer l (sideAfter k w) (sideAfter k h) p q) (when-accepted (refusalOf net w h k out scratch) (over (refinedNet net w h k) out) out e))
     (claimed net w h k out t p q place)
 
 -- of the answer of the call that does both
-pub answer-claimed : (net : List ℤ) (w h k p q : ℕ) (out scratch : List ℤ) {told : ℕ × List ℤ} → refusalAt net w h k p q false out scratch ≡ 0 →
-    told ≡ refinedPointAnswer net w h k p q false out scratch → Claimed net w h k p q told
+pub answer-claimed : (net : List ℤ) (w h k p q : ℕ) (out scratch : List ℤ) {outcome : ℕ × List ℤ} → refusalAt net w h k p q false out scratch ≡ 0 →
+    outcome ≡ refinedPointAnswer net w h k p q false out scratch → Claimed net w h k p q outcome
 answer-claimed net w h k p q out scratch none e =
-    let t = point-taken net w h k p q false (length out) (length scratch) none in
+    let t = point-accepted net w h k p q false (length out) (length scratch) none in
     subst (Claimed net w h k p q)
     (accepted-answer (refusalAt net w h k p q false out scratch) (refinedSurfacePoint net w h k p q) none
     (point-of-refined net w h k out (t .0) p q (t .1))

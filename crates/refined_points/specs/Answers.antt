@@ -4,12 +4,12 @@ use mathlib.Core.List.{List, []}
 use Prim.Native.Nat.{ℕ}
 use lib.IntN.{ℤ}
 use lib.ListN.{length}
-use Rattle.net.specs.TurnedAway.{accepted}
+use Rattle.net.specs.Refusals.{accepted}
 use Rattle.surface.specs.SurfacePoint.{surfacePoint}
 use Rattle.subdivision.specs.Refinement.{sideAfter}
 use Rattle.steps.specs.RefinedNet.{refinedNet}
-use Rattle.refine.specs.TurnedAway.{tooShort}
-use Rattle.refined_points.specs.TurnedAway.{refinedPointRefusal}
+use Rattle.refine.specs.Refusals.{tooShort}
+use Rattle.refined_points.specs.Refusals.{refinedPointRefusal}
 
 -- the first fault of refining and then a point, where `other` is whether another lent output is too short
 abbrev pub refusalAt : List ℤ → ℕ → ℕ → ℕ → ℕ → ℕ → Bool → List ℤ → List ℤ → ℕ

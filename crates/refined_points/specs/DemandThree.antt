@@ -17,11 +17,11 @@ use Rattle.refine.specs.Answers.{refusalOf, refineOutput}
 -- what is claimed of an answer at place (p, q) of the k times refined net: it is a point, x, y, z, and no refusal; and
 -- each coordinate is within (k + 1)/2 units of the exact spline of the starting net at that place, edge count 1024·2^k,
 -- and within the least and the greatest of the nine control values of each starting triangle that the place lies in
-pub record Claimed (net : List ℤ) (w h k p q : ℕ) (told : ℕ × List ℤ) : Type 0 where
-  pub answered : told .0 ≡ 0
-  pub point : length (told .1) ≡ 3
-  pub near : (x : ℕ) → x < 3 → NearSpline (field net w x) w h k p q (number (told .1) x)
-  pub within : (x : ℕ) → x < 3 → (t : Triangle) → OfNet w h t → LiesIn (fineEdge k) p q t → WithinControls (field net w x) t (number (told .1) x)
+pub record Claimed (net : List ℤ) (w h k p q : ℕ) (outcome : ℕ × List ℤ) : Type 0 where
+  pub answered : outcome .0 ≡ 0
+  pub point : length (outcome .1) ≡ 3
+  pub near : (x : ℕ) → x < 3 → NearSpline (field net w x) w h k p q (number (outcome .1) x)
+  pub within : (x : ℕ) → x < 3 → (t : Triangle) → OfNet w h t → LiesIn (fineEdge k) p q t → WithinControls (field net w x) t (number (outcome .1) x)
 
 -- demand 3: of every net, size, k, output and scratch that refining takes, at every place of the refined grid, of the
 -- surface point on what refining left in the output, whatever stood in the output and the scratch before and stands

@@ -7,13 +7,13 @@ use surface::PointAnswer;
 use surface::surface_point;
 ghost use mathlib.Core.Path.{_≡_};
 ghost use mathlib.Core.Bool.{false, _||_};
-ghost use Rattle.net.specs.TurnedAway.{badSize, outputAfter};
-ghost use Rattle.surface.specs.Answers.{pointTold};
+ghost use Rattle.net.specs.Refusals.{badSize, outputAfter};
+ghost use Rattle.surface.specs.Answers.{pointOutcome};
 ghost use Rattle.steps.specs.RefinedNet.{refinedNet};
 ghost use Rattle.steps.specs.Steps.{UnchangedFrom};
-ghost use Rattle.refine.specs.TurnedAway.{tooDeep, tooShort};
+ghost use Rattle.refine.specs.Refusals.{tooDeep, tooShort};
 ghost use Rattle.refine.specs.Answers.{freeScratch};
-ghost use Rattle.refined_points.specs.TurnedAway.{offGrid, refinedPointRefusal};
+ghost use Rattle.refined_points.specs.Refusals.{offGrid, refinedPointRefusal};
 ghost use Rattle.refined_points.specs.Answers.{refusalAt, refinedPointAnswer};
 ghost use Rattle.refined_points.specs.DemandThree.{Claimed};
 
@@ -38,9 +38,9 @@ fn refusal_at(
     q: usize,
     short: bool,
     room: usize,
-    spare: usize,
+    scratch: usize,
 ) -> u32
-    ensures { λ r. ⌜ r ≡ refinedPointRefusal (now (net .entry)) w h k p q (short || tooShort w h k room spare) ⌝ }
+    ensures { λ r. ⌜ r ≡ refinedPointRefusal (now (net .entry)) w h k p q (short || tooShort w h k room scratch) ⌝ }
 {
     let refusal = size_refusal(w, h, k);
     if refusal != 0 {
@@ -49,7 +49,7 @@ fn refusal_at(
     if off_grid(w, h, k, p, q) {
         return 6;
     }
-    net_refusal(net, w, h, k, short, room, spare)
+    net_refusal(net, w, h, k, short, room, scratch)
 }
 
 // The same as `refined_point`, for the crates above: `short` is whether another output that they were lent is too
@@ -65,7 +65,7 @@ pub fn refined_point_with(
     out: &mut [i32],
     scratch: &mut [i32],
 ) -> PointAnswer
-    ensures { λ r. ⌜ pointTold r ≡ refinedPointAnswer (now (net .entry)) w h k p q short (now (out .entry)) (now (scratch .entry)) ⌝ }
+    ensures { λ r. ⌜ pointOutcome r ≡ refinedPointAnswer (now (net .entry)) w h k p q short (now (out .entry)) (now (scratch .entry)) ⌝ }
     ensures { λ r. ⌜ now (out .exit) ≡ outputAfter (refusalAt (now (net .entry)) w h k p q short (now (out .entry)) (now (scratch .entry))) (refinedNet (now (net .entry)) w h k) (now (out .entry)) ⌝ }
     ensures { λ r. ⌜ UnchangedFrom (freeScratch (refusalAt (now (net .entry)) w h k p q short (now (out .entry)) (now (scratch .entry))) k w h) (now (scratch .entry)) (now (scratch .exit)) ⌝ }
 {
@@ -92,10 +92,10 @@ pub fn refined_point(
     out: &mut [i32],
     scratch: &mut [i32],
 ) -> PointAnswer
-    ensures { λ r. ⌜ pointTold r ≡ refinedPointAnswer (now (net .entry)) w h k p q false (now (out .entry)) (now (scratch .entry)) ⌝ }
+    ensures { λ r. ⌜ pointOutcome r ≡ refinedPointAnswer (now (net .entry)) w h k p q false (now (out .entry)) (now (scratch .entry)) ⌝ }
     ensures { λ r. ⌜ now (out .exit) ≡ outputAfter (refusalAt (now (net .entry)) w h k p q false (now (out .entry)) (now (scratch .entry))) (refinedNet (now (net .entry)) w h k) (now (out .entry)) ⌝ }
     ensures { λ r. ⌜ UnchangedFrom (freeScratch (refusalAt (now (net .entry)) w h k p q false (now (out .entry)) (now (scratch .entry))) k w h) (now (scratch .entry)) (now (scratch .exit)) ⌝ }
-    ensures { λ r. ⌜ (refusalAt (now (net .entry)) w h k p q false (now (out .entry)) (now (scratch .entry)) ≡ 0 → Claimed (now (net .entry)) w h k p q (pointTold r)) ⌝ }
+    ensures { λ r. ⌜ (refusalAt (now (net .entry)) w h k p q false (now (out .entry)) (now (scratch .entry)) ≡ 0 → Claimed (now (net .entry)) w h k p q (pointOutcome r)) ⌝ }
 {
     refined_point_with(net, w, h, k, p, q, false, out, scratch)
 }

@@ -54,8 +54,8 @@ fn refined_point(row: [u8; 6], a: [[i32; 3]; 3], b: [[i32; 3]; 3]) -> [i32; 3]
 }
 
 // The control triangle of a refined vertex of a kind, from the control triangles at the two ends of its edge. For the
-// crates above, which hand in a table that passes the test, as `weight_table` does, and the kind of a vertex; it asks
-// nothing of the numbers.
+// crates above, which hand in a table that passes the test, as `weight_table` does, and the kind of a vertex; the
+// numbers may be any.
 pub fn refined_triangle(
     table: [[[u8; 6]; 3]; 4],
     kind: usize,

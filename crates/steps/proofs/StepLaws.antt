@@ -1,4 +1,4 @@
--- What the steps leave in the output and in the scratch, and that what they ask is met.
+-- What the steps leave in the output and in the scratch, and their preconditions.
 use mathlib.Core.Path.{_≡_, refl, sym, ap, subst, _∙_}
 use mathlib.Core.Bool.{Bool, true, false, cond}
 use mathlib.Core.List.{List, _++_}

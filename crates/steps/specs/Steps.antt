@@ -1,4 +1,4 @@
--- What the steps ask of their caller, who has refused all else, and how a control triangle is stored.
+-- The preconditions of the steps, which callers establish by their refusals, and how a control triangle is stored.
 use mathlib.Core.Path.{_≡_, refl}
 use mathlib.Core.List.{List, [], _∷_}
 use Prim.Native.Nat.{ℕ, _*_, _+_, _≤_}

@@ -3,6 +3,6 @@ mod sizes;
 mod steps;
 mod vertices;
 
-// For the crates above, which have refused all that these do not take.
+// For the crates above: callers establish the preconditions.
 pub use sizes::side_after;
 pub use steps::refine_steps;

@@ -1,5 +1,5 @@
-// One refinement of a lent net, and k of them to and fro between two lent slices. For `refine` and `refined_point`,
-// which have refused all that `refine_steps` does not take; what the others ask is met in this file.
+// One refinement of a lent net, and k of them, which alternate between two lent slices. `refine` and `refined_point`
+// establish the precondition of `refine_steps`, and callers in this file those of the others.
 use crate::sizes::side_after;
 use crate::vertices::refined_vertex;
 use crate::vertices::store_triangle;

@@ -1,5 +1,5 @@
-// The refined control triangle at one vertex of the refined grid, and its storage. For one step's loop in `steps.rt`,
-// which is seen to meet what these ask.
+// The refined control triangle at one vertex of the refined grid, and its storage. One step's loop in `steps.rt`
+// establishes the preconditions.
 use net::POINT_STRIDE;
 use net::load;
 use net::store_point;

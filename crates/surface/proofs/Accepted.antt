@@ -1,4 +1,4 @@
--- Nets that are taken: their surface points are answered at every place of the grid.
+-- Accepted nets: their surface points are answered at every place of the grid.
 use mathlib.Core.Path.{_≡_, refl, sym}
 use mathlib.Core.Bool.{Bool, true, false}
 use mathlib.Core.List.{List}
@@ -8,15 +8,15 @@ use lib.Dec.{ltb}
 use lib.IntN.{ℤ}
 use borrow.Author.Tests.{le-ltb}
 use Rattle.net.specs.Net.{Index, one, two, three, cornerOf, corner, start, vertexNumbers, stride}
-use Rattle.net.specs.TurnedAway.{badSide, badSize, anyBeyond, AcceptedNet}
+use Rattle.net.specs.Refusals.{badSide, badSize, anyBeyond, AcceptedNet}
 use Rattle.net.proofs.Faults.{or-no, cond-false}
 use Rattle.net.proofs.Places.{vertex-ends}
 use Rattle.net.proofs.Ranges.{part-in-range}
 use Rattle.places.specs.Places.{OnGrid, chosen}
-use Rattle.places.specs.TurnedAway.{noPlace}
+use Rattle.places.specs.Refusals.{noPlace}
 use Rattle.places.proofs.Cells.{cells-in-grid}
-use Rattle.triangles.specs.TurnedAway.{triangleBeyond}
-use Rattle.surface.specs.TurnedAway.{pointRefusal}
+use Rattle.triangles.specs.Refusals.{triangleBeyond}
+use Rattle.surface.specs.Refusals.{pointRefusal}
 
 -- ---- the corners of a place's triangle are vertices of the net
 

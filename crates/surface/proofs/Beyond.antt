@@ -10,17 +10,17 @@ use lib.ListN.{length}
 use borrow.Author.Tests.{ltb-false, eqb-true}
 use Rattle.exact.specs.Rounding.{rounded}
 use Rattle.net.specs.Net.{numbers}
-use Rattle.net.specs.TurnedAway.{accepted, badSize, shortNet}
+use Rattle.net.specs.Refusals.{accepted, badSize, shortNet}
 use Rattle.net.proofs.Faults.{fault-none}
 use Rattle.net.proofs.Beyond.{cut, cond-where, cond-else, cut-short}
 use Rattle.places.specs.Places.{cell, chosen, share, orderOf}
-use Rattle.places.specs.TurnedAway.{noPlace}
+use Rattle.places.specs.Refusals.{noPlace}
 use Rattle.places.proofs.Cells.{InGrid, cells-in-grid}
-use Rattle.triangles.specs.TurnedAway.{triangleBeyond}
+use Rattle.triangles.specs.Refusals.{triangleBeyond}
 use Rattle.triangles.proofs.Beyond.{cut-triangle, cut-controls}
 use Rattle.spline.specs.Spline.{valueIn, spline}
 use Rattle.surface.specs.SurfacePoint.{coordinate, surfacePoint}
-use Rattle.surface.specs.TurnedAway.{pointRefusal}
+use Rattle.surface.specs.Refusals.{pointRefusal}
 use Rattle.surface.specs.Answers.{pointAnswer, viewAnswer, millimetres}
 
 place-grid-of : (net : List ℤ) (w h p q : ℕ) → pointRefusal net w h p q ≡ 0 → InGrid w h (cell 1024 w p) (cell 1024 h q)

@@ -1,4 +1,4 @@
--- Surface points: from what the code found to the definition, what the evaluation asks, and the answers.
+-- Surface points: from what the code found to the definition, the precondition of the evaluation, and the answers.
 use mathlib.Core.Path.{_≡_, refl, sym, ap, subst, _∙_}
 use mathlib.Core.Bool.{false, Bool, true, cond}
 use mathlib.Core.List.{List, [], _∷_, map}
@@ -9,24 +9,24 @@ use lib.IntN.{ℤ}
 use borrow.Author.Tests.{ltb-true, ltb-false}
 use Rattle.exact.specs.Rounding.{rounded}
 use Rattle.exact.specs.WeightedSum.{weightedSum, Within}
-use Rattle.net.specs.TurnedAway.{badSize, shortNet, accepted}
+use Rattle.net.specs.Refusals.{badSize, shortNet, accepted}
 use Rattle.net.specs.Net.{Index, one, two, three, field}
 use Rattle.net.proofs.Faults.{when-accepted, when-refused, cond-false, fault-none, fault-before}
 use Rattle.places.specs.Places.{cell, Order, o123, o132, o213, o231, o312, o321, cornerP, cornerQ, cornerT, orderOf, chosen, share, gapA, gapB, gapG, isDown, rest, upShare, downShare}
-use Rattle.places.specs.TurnedAway.{noPlace}
+use Rattle.places.specs.Refusals.{noPlace}
 use Rattle.places.specs.Located.{placeRefusal, shares, InOrder}
 use Rattle.places.proofs.Cells.{in-cells, cells-in-grid}
 use Rattle.places.proofs.Orders.{Sorted, in-order}
-use Rattle.triangles.specs.Corners.{InNet, cornerControls, valuesIn, turned, arranged}
+use Rattle.triangles.specs.Corners.{InNet, cornerControls, valuesIn, reorderedControls, arranged}
 use Rattle.triangles.specs.BezierPoints.{controlsOf}
-use Rattle.triangles.specs.TurnedAway.{triangleBeyond}
+use Rattle.triangles.specs.Refusals.{triangleBeyond}
 use Rattle.triangles.proofs.Corners.{in-net, value-size}
 use Rattle.triangles.proofs.CornerForm.{inForm, form-values, loaded-form, form-within}
 use Rattle.spline.specs.Spline.{spline}
 use Rattle.spline.specs.Parts.{parts}
 use Rattle.spline.proofs.Parts.{parts-value}
 use Rattle.surface.specs.SurfacePoint.{coordinate, surfacePoint}
-use Rattle.surface.specs.TurnedAway.{pointRefusal}
+use Rattle.surface.specs.Refusals.{pointRefusal}
 use Rattle.surface.specs.Answers.{pointAnswer, viewAnswer, viewPoint, millimetres}
 use Rattle.surface.specs.Evaluation.{evaluated, Evaluable}
 
@@ -50,15 +50,15 @@ pub in-order-of : (s : Index → ℕ) {a b d : ℕ} → a ≡ s one → b ≡ s 
 in-order-of s e f g {P} {Q} {T} {ahead} {A} {B} {G} i =
     subst (λ (l : Index → ℕ). InOrder (orderOf l) l P Q T ahead A B G) (shares-are s e f g) i
 
--- the control triangles that the code evaluates: turned, and arranged by the order of the shares
+-- the control triangles that the code evaluates: reordered, and arranged by the order of the shares
 pub prepared : (net : List ℤ) (w h p q : ℕ) {down : Bool} {c : List (List (List ℤ))} {P Q T : ℕ} {ahead : Bool} {A B G : ℕ} →
     down ≡ chosen 1024 w h p q .down → c ≡ cornerControls net w (chosen 1024 w h p q) →
     InOrder (orderOf (share 1024 w h p q)) (share 1024 w h p q) P Q T ahead A B G →
-    (x : ℕ) → valuesIn (arranged P Q T (turned down c)) x
+    (x : ℕ) → valuesIn (arranged P Q T (reorderedControls down c)) x
     ≡ inForm (chosen 1024 w h p q .down) (controlsOf (field net w x) (chosen 1024 w h p q)) (orderOf (share 1024 w h p q))
 prepared net w h p q ek ec i x =
     let t = chosen 1024 w h p q in
-    (λ k. valuesIn (arranged (i .first-corner k) (i .second-corner k) (i .last-corner k) (turned (ek k) (ec k))) x)
+    (λ k. valuesIn (arranged (i .first-corner k) (i .second-corner k) (i .last-corner k) (reorderedControls (ek k) (ec k))) x)
     ∙ form-values (t .down) (orderOf (share 1024 w h p q)) (cornerControls net w t) x
     ∙ loaded-form net w t (t .down) (orderOf (share 1024 w h p q)) x
 
@@ -66,7 +66,7 @@ prepared net w h p q ek ec i x =
 pub evaluated-coordinate : (net : List ℤ) (w h p q x : ℕ) {down : Bool} {c : List (List (List ℤ))} {P Q T : ℕ} {ahead : Bool} {A B G : ℕ} →
     down ≡ chosen 1024 w h p q .down → c ≡ cornerControls net w (chosen 1024 w h p q) →
     InOrder (orderOf (share 1024 w h p q)) (share 1024 w h p q) P Q T ahead A B G →
-    evaluated ahead A B G (arranged P Q T (turned down c)) x ≡ coordinate net w h p q x
+    evaluated ahead A B G (arranged P Q T (reorderedControls down c)) x ≡ coordinate net w h p q x
 unfolding coordinate spline
 evaluated-coordinate net w h p q x ek ec i =
     let t = chosen 1024 w h p q in
@@ -91,8 +91,8 @@ accepted-point net w h p q e ex ey ez =
     λ t. (e t, ((λ k. ex k ∷ ey k ∷ ez k ∷ []) ∙ when-accepted (pointRefusal net w h p q) (surfacePoint net w h p q) [] (sym e)) t)
 
 -- the viewer's answer is the surface point's, coordinate by coordinate
-pub viewed : (net : List ℤ) (w h p q : ℕ) {told : ℕ × List ℤ} → told ≡ pointAnswer net w h p q →
-    (told .0, map millimetres (told .1)) ≡ viewAnswer net w h p q
+pub viewed : (net : List ℤ) (w h p q : ℕ) {outcome : ℕ × List ℤ} → outcome ≡ pointAnswer net w h p q →
+    (outcome .0, map millimetres (outcome .1)) ≡ viewAnswer net w h p q
 unfolding pointAnswer viewAnswer
 viewed net w h p q e = (λ t. (e t .0, map millimetres (e t .1))) ∙ (λ t. (pointRefusal net w h p q, at (accepted (pointRefusal net w h p q)) t))
   where
@@ -126,7 +126,7 @@ pub range-refusal : (net : List ℤ) (w h p q : ℕ) → GoodPlace net w h p q �
 range-refusal net w h p q g e =
     cond-false _ 1 _ (g .size) (cond-false _ 6 _ (g .place) (cond-false _ 2 _ (g .long) e))
 
--- ---- what the evaluation asks
+-- ---- the precondition of the evaluation
 
 -- the shares of a place are at most 1,024 each, and 1,024 together
 share-at : (b : Bool) (f g : ℕ) → f ≤ 1024 → g ≤ 1024 → (k : Index) → (cond b (downShare 1024 f g) (upShare 1024 f g)) k ≤ 1024
@@ -175,12 +175,12 @@ gaps-sum a =
 pub evaluable : (net : List ℤ) (w h p q : ℕ) → GoodPlace net w h p q → triangleBeyond net w (chosen 1024 w h p q) ≡ false →
     {down : Bool} {c : List (List (List ℤ))} {P Q T : ℕ} {ahead : Bool} {A B G : ℕ} →
     down ≡ chosen 1024 w h p q .down → c ≡ cornerControls net w (chosen 1024 w h p q) →
-    InOrder (orderOf (share 1024 w h p q)) (share 1024 w h p q) P Q T ahead A B G → Evaluable A B G (arranged P Q T (turned down c))
+    InOrder (orderOf (share 1024 w h p q)) (share 1024 w h p q) P Q T ahead A B G → Evaluable A B G (arranged P Q T (reorderedControls down c))
 evaluable net w h p q g b {down} {c} {P} {Q} {T} ek ec i =
     let t = chosen 1024 w h p q in
     let s = share 1024 w h p q in
     let lies = in-net-place net w h p q (g .size) (g .place) (g .long) in
-    let within : (x : ℕ) → x < 3 → Within 16777216 (valuesIn (arranged P Q T (turned down c)) x) =
+    let within : (x : ℕ) → x < 3 → Within 16777216 (valuesIn (arranged P Q T (reorderedControls down c)) x) =
     λ x k. subst (Within 16777216) (sym (prepared net w h p q ek ec i x))
     (form-within 16777216 (t .down) (controlsOf (field net w x) t) (orderOf s) (value-size net w (t .column) (t .row) (t .down) lies b x k)) in
     record {

@@ -5,22 +5,22 @@ use mathlib.Core.List.{List, [], _∷_, map}
 use Prim.Native.Nat.{ℕ}
 use lib.IntN.{ℤ, pos, negsuc}
 use lib.Ieee.{Float, fin, binary64, ofInt, div}
-use Rattle.net.specs.TurnedAway.{accepted}
+use Rattle.net.specs.Refusals.{accepted}
 use Rattle.surface.specs.SurfacePoint.{surfacePoint}
-use Rattle.surface.specs.TurnedAway.{pointRefusal}
+use Rattle.surface.specs.Refusals.{pointRefusal}
 use Rattle.surface.specs.declared.answers.PointAnswer.{PointAnswer}
 use Rattle.surface.specs.declared.answers.PointAnswer.the-variants as point
 use Rattle.surface.specs.declared.answers.ViewAnswer.{ViewAnswer}
 use Rattle.surface.specs.declared.answers.ViewAnswer.the-variants as view
 
 -- the number and the values: x, y, z of a point, and none where it is refused
-abbrev pub pointTold : PointAnswer → ℕ × List ℤ
-pointTold (point.At p) = (0, p .x ∷ p .y ∷ p .z ∷ [])
-pointTold (point.Refused n) = (n, [])
+abbrev pub pointOutcome : PointAnswer → ℕ × List ℤ
+pointOutcome (point.At p) = (0, p .x ∷ p .y ∷ p .z ∷ [])
+pointOutcome (point.Refused n) = (n, [])
 
-abbrev pub viewTold : ViewAnswer → ℕ × List Float
-viewTold (view.At p) = (0, p .x ∷ p .y ∷ p .z ∷ [])
-viewTold (view.Refused n) = (n, [])
+abbrev pub viewOutcome : ViewAnswer → ℕ × List Float
+viewOutcome (view.At p) = (0, p .x ∷ p .y ∷ p .z ∷ [])
+viewOutcome (view.Refused n) = (n, [])
 
 -- what a surface point answers
 unfoldable pub pointAnswer : List ℤ → ℕ → ℕ → ℕ → ℕ → ℕ × List ℤ
@@ -46,5 +46,5 @@ millimetres-of : (millimetres (pos 1536) ≡ fin false 3 (negsuc 0)) × (millime
 unfolding div ofInt
 millimetres-of = (refl, refl)
 
-refused-point : pointTold (point.Refused 3) ≡ (3, [])
+refused-point : pointOutcome (point.Refused 3) ≡ (3, [])
 refused-point = refl

@@ -8,11 +8,11 @@ use Rattle.exact.specs.WeightedSum.{weightedSum, Within}
 use Rattle.triangles.specs.Corners.{valuesIn}
 use Rattle.spline.specs.Parts.{parts}
 
--- the value in coordinate x of control triangles that are turned and arranged, rounded once
+-- the value in coordinate x of control triangles that are reordered and arranged, rounded once
 abbrev pub evaluated : Bool → ℕ → ℕ → ℕ → List (List (List ℤ)) → ℕ → ℤ
 evaluated ahead A B G c x = rounded (weightedSum (parts ahead A B G) (valuesIn c x)) 37748736
 
--- what the evaluation asks of gaps and control values
+-- the precondition of the evaluation, on gaps and control values
 pub record Evaluable (A B G : ℕ) (c : List (List (List ℤ))) : Type 0 where
   pub gaps : A + B + G ≤ 1024
   pub within-0 : Within 16777216 (valuesIn c 0)

@@ -11,8 +11,8 @@ use places::put_in_order;
 use triangles::arrange;
 use triangles::coordinate_values;
 use triangles::load_triangle;
+use triangles::reorder_controls;
 use triangles::triangle_beyond;
-use triangles::turn;
 ghost use mathlib.Core.Path.{_≡_};
 ghost use mathlib.Core.Bool.{true, false};
 ghost use mathlib.Core.List.{map};
@@ -21,7 +21,7 @@ ghost use Rattle.exact.specs.WeightedSum.{Within, weightedSum};
 ghost use Rattle.exact.specs.Rounding.{rounded};
 ghost use Rattle.spline.specs.Parts.{coefficients, partRows, parts};
 ghost use Rattle.surface.specs.Evaluation.{evaluated, Evaluable};
-ghost use Rattle.surface.specs.Answers.{pointTold, viewTold, pointAnswer, viewAnswer, millimetres};
+ghost use Rattle.surface.specs.Answers.{pointOutcome, viewOutcome, pointAnswer, viewAnswer, millimetres};
 
 // A², 2AB, 2AG, B², 2BG, G².
 fn squares(a: usize, b: usize, g: usize) -> [i32; 6]
@@ -88,7 +88,7 @@ fn weighted_point(weights: [i64; 9], values: [i32; 9]) -> i32
     weighted_mean9(weights, values, 37748736) as i32
 }
 
-// The point in each coordinate, of control triangles that are turned and arranged.
+// The point in each coordinate, of control triangles that are reordered and arranged.
 fn evaluate(ahead: bool, a: usize, b: usize, g: usize, c: [[[i32; 3]; 3]; 3]) -> Point
     requires { ⌜ Evaluable a b g c ⌝ }
     ensures { λ r. ⌜ r .x ≡ evaluated ahead a b g c 0 ⌝ }
@@ -107,7 +107,7 @@ fn evaluate(ahead: bool, a: usize, b: usize, g: usize, c: [[[i32; 3]; 3]; 3]) ->
 
 // The surface point at place (p, q), counted in 1,024ths of an edge.
 pub fn surface_point(net: &[i32], w: usize, h: usize, p: usize, q: usize) -> PointAnswer
-    ensures { λ r. ⌜ pointTold r ≡ pointAnswer (now (net .entry)) w h p q ⌝ }
+    ensures { λ r. ⌜ pointOutcome r ≡ pointAnswer (now (net .entry)) w h p q ⌝ }
 {
     let refusal = place_refusal(net, w, h, p, q);
     if refusal != 0 {
@@ -122,7 +122,7 @@ pub fn surface_point(net: &[i32], w: usize, h: usize, p: usize, q: usize) -> Poi
     }
     let c = load_triangle(net, w, i, j, down);
     let o = put_in_order(at.a, at.b, at.d);
-    let t = arrange(turn(c, down), o.p, o.q, o.t);
+    let t = arrange(reorder_controls(c, down), o.p, o.q, o.t);
     PointAnswer::At(evaluate(o.ahead, o.a, o.b, o.g, t))
 }
 
@@ -135,7 +135,7 @@ fn millimetres_of(z: i32) -> f64
 
 // The surface point in millimetres, for the viewer.
 pub fn view_point(net: &[i32], w: usize, h: usize, p: usize, q: usize) -> ViewAnswer
-    ensures { λ r. ⌜ viewTold r ≡ viewAnswer (now (net .entry)) w h p q ⌝ }
+    ensures { λ r. ⌜ viewOutcome r ≡ viewAnswer (now (net .entry)) w h p q ⌝ }
 {
     let answer = surface_point(net, w, h, p, q);
     match answer {

@@ -8,12 +8,12 @@ use native.Mathlib.Omega.{arith}
 use lib.IntN.{ℤ}
 use lib.ListN.{length}
 use Rattle.net.specs.Net.{Index, one, two, three, Triangle, corner, start, numbers, vertexNumbers, field, stride}
-use Rattle.net.specs.TurnedAway.{anyBeyond}
+use Rattle.net.specs.Refusals.{anyBeyond}
 use Rattle.net.proofs.Places.{vertex-ends}
 use Rattle.net.proofs.Beyond.{cut, cut-vertex, cut-field}
 use Rattle.places.proofs.Cells.{InGrid}
 use Rattle.triangles.specs.BezierPoints.{controlsOf}
-use Rattle.triangles.specs.TurnedAway.{triangleBeyond}
+use Rattle.triangles.specs.Refusals.{triangleBeyond}
 use Rattle.triangles.proofs.Corners.{corner-before}
 
 module _ (net : List ℤ) (w h : ℕ) (t : Triangle) (g : InGrid w h (t .column) (t .row)) where

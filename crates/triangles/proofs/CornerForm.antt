@@ -11,7 +11,7 @@ use Rattle.exact.proofs.Expressions.{Expr, lit, _⊕_, _⊗_}
 use Rattle.net.specs.Net.{Index, one, two, three, rank, entry, Triangle, field, isNext}
 use Rattle.places.specs.Places.{Order, o123, o132, o213, o231, o312, o321, cornerP, cornerQ, cornerT}
 use Rattle.triangles.specs.BezierPoints.{Controls, controlsOf, indexK, indexM, indexN}
-use Rattle.triangles.specs.Corners.{cornerControls, turned, arranged, valuesIn}
+use Rattle.triangles.specs.Corners.{cornerControls, reorderedControls, arranged, valuesIn}
 
 -- ---- the values
 
@@ -24,9 +24,9 @@ module _ {A : Type 0} where
       ∷ c (cornerT o) (indexK down (cornerT o)) ∷ c (cornerT o) (indexN down (cornerT o)) ∷ c (cornerT o) (indexM down (cornerT o))
       ∷ []
 
--- what the turned and arranged control triangles hold
+-- what the reordered and arranged control triangles hold
 pub form-values : (down : Bool) (o : Order) (c : List (List (List ℤ))) (x : ℕ) →
-    valuesIn (arranged (rank (cornerP o)) (rank (cornerQ o)) (rank (cornerT o)) (turned down c)) x
+    valuesIn (arranged (rank (cornerP o)) (rank (cornerQ o)) (rank (cornerT o)) (reorderedControls down c)) x
     ≡ inForm down (λ P k. entry (getD c (rank P) []) k x) o
 form-values false o123 c x = refl
 form-values false o132 c x = refl

@@ -24,13 +24,13 @@ abbrev pub valuesIn : List (List (List ℤ)) → ℕ → List ℤ
 valuesIn c x = controlList (λ P k. entry (getD c (rank P) []) k x)
 
 -- the control points of a corner in the order ck, cn, cm, and so for each corner of a triangle
-abbrev pub turnedCorner : Bool → Index → List (List ℤ) → List (List ℤ)
-turnedCorner down P c =
+abbrev pub reorderedCorner : Bool → Index → List (List ℤ) → List (List ℤ)
+reorderedCorner down P c =
     getD c (rank (indexK down P)) [] ∷ getD c (rank (indexN down P)) [] ∷ getD c (rank (indexM down P)) [] ∷ []
 
-abbrev pub turned : Bool → List (List (List ℤ)) → List (List (List ℤ))
-turned down c =
-    turnedCorner down one (getD c 0 []) ∷ turnedCorner down two (getD c 1 []) ∷ turnedCorner down three (getD c 2 []) ∷ []
+abbrev pub reorderedControls : Bool → List (List (List ℤ)) → List (List (List ℤ))
+reorderedControls down c =
+    reorderedCorner down one (getD c 0 []) ∷ reorderedCorner down two (getD c 1 []) ∷ reorderedCorner down three (getD c 2 []) ∷ []
 
 -- the corners in another order
 abbrev pub arranged : ℕ → ℕ → ℕ → List (List (List ℤ)) → List (List (List ℤ))

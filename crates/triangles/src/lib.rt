@@ -5,5 +5,5 @@ mod triangles;
 pub use triangles::arrange;
 pub use triangles::coordinate_values;
 pub use triangles::load_triangle;
+pub use triangles::reorder_controls;
 pub use triangles::triangle_beyond;
-pub use triangles::turn;

@@ -8,9 +8,9 @@ ghost use mathlib.Core.List.{[], _∷_};
 ghost use Prim.Native.Nat.{_+_, _≤_, _<_};
 ghost use lib.ListN.{length, getD};
 ghost use Rattle.net.specs.Net.{one, two, three, vertexAt, triangleAt, start, vertexNumbers, entry, stride};
-ghost use Rattle.net.specs.TurnedAway.{anyBeyond};
-ghost use Rattle.triangles.specs.Corners.{InNet, cornerControls, valuesIn, turned, arranged};
-ghost use Rattle.triangles.specs.TurnedAway.{triangleBeyond};
+ghost use Rattle.net.specs.Refusals.{anyBeyond};
+ghost use Rattle.triangles.specs.Corners.{InNet, cornerControls, valuesIn, reorderedControls, arranged};
+ghost use Rattle.triangles.specs.Refusals.{triangleBeyond};
 
 // Whether one of the numbers of three vertices is outside the net range.
 fn vertices_beyond(
@@ -93,8 +93,8 @@ fn pick(c: [[i32; 3]; 3], k: usize, n: usize, m: usize) -> [[i32; 3]; 3]
 }
 
 // The control points of each corner in the order ck, cn, cm of document 01's Bézier net.
-pub fn turn(c: [[[i32; 3]; 3]; 3], down: bool) -> [[[i32; 3]; 3]; 3]
-    ensures { λ r. ⌜ r ≡ turned down c ⌝ }
+pub fn reorder_controls(c: [[[i32; 3]; 3]; 3], down: bool) -> [[[i32; 3]; 3]; 3]
+    ensures { λ r. ⌜ r ≡ reorderedControls down c ⌝ }
 {
     if down {
         [

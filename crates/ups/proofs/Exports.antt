@@ -11,15 +11,15 @@ use lib.Seq.{sets}
 use Rattle.exact.specs.Filling.{over}
 use Rattle.exact.proofs.FillingLaws.{sets-over}
 use Rattle.net.specs.Net.{triangleAt}
-use Rattle.net.specs.TurnedAway.{badSize, shortNet, accepted, outputAfter}
+use Rattle.net.specs.Refusals.{badSize, shortNet, accepted, outputAfter}
 use Rattle.net.proofs.Faults.{answered, not-accepted, cond-true, cond-false, when-refused}
 use Rattle.places.specs.Places.{chosen}
-use Rattle.places.specs.TurnedAway.{noPlace}
-use Rattle.triangles.specs.TurnedAway.{triangleBeyond}
+use Rattle.places.specs.Refusals.{noPlace}
+use Rattle.triangles.specs.Refusals.{triangleBeyond}
 use Rattle.bezier.specs.BezierNet.{bezierNumbers}
 use Rattle.bezier.specs.Answers.{bezierOutput}
-use Rattle.bezier.specs.TurnedAway.{noTriangle, bezierRefusal}
-use Rattle.surface.specs.TurnedAway.{pointRefusal}
+use Rattle.bezier.specs.Refusals.{noTriangle, bezierRefusal}
+use Rattle.surface.specs.Refusals.{pointRefusal}
 use Rattle.refine.proofs.CallLaws.{Left}
 use Rattle.ups.specs.Exports.{bezierExport, pointExport, withRoom}
 
@@ -102,8 +102,8 @@ module _ {A : Type 0} (r : ℕ) (values counts : List ℕ) (result out : List A)
       m ≡ sets counts 0 l → o ≡ outputAfter r result out →
       (0 ≡ r) × ((o ≡ outputAfter 0 result out) × (m ≡ outputAfter 0 values counts))
   exported e room f g =
-      let told = answered r values e in
-      (sym (told .0), (g ∙ ap (λ (n : ℕ). outputAfter n result out) (told .0), f ∙ ap (sets counts 0) (told .1) ∙ sets-over values counts room))
+      let outcome = answered r values e in
+      (sym (outcome .0), (g ∙ ap (λ (n : ℕ). outputAfter n result out) (outcome .0), f ∙ ap (sets counts 0) (outcome .1) ∙ sets-over values counts room))
 
   pub not-exported : {n : ℕ} {o : List A} → 0 < length values → _≡_ {A = ℕ × List ℕ} (n, []) (r, cond (accepted r) values []) → o ≡ outputAfter r result out →
       (n ≡ r) × ((o ≡ outputAfter n result out) × (counts ≡ outputAfter n values counts))

@@ -6,13 +6,13 @@ use Prim.Native.Nat.{ℕ}
 use lib.Dec.{ltb, eqb}
 use lib.IntN.{ℤ}
 use Rattle.net.specs.Net.{triangleAt}
-use Rattle.net.specs.TurnedAway.{firstFault, badSize, shortNet}
+use Rattle.net.specs.Refusals.{firstFault, badSize, shortNet}
 use Rattle.places.specs.Places.{chosen}
-use Rattle.places.specs.TurnedAway.{noPlace}
-use Rattle.triangles.specs.TurnedAway.{triangleBeyond}
-use Rattle.bezier.specs.TurnedAway.{noTriangle}
-use Rattle.writer.specs.TurnedAway.{writeRefusal, noRoom}
-use Rattle.reader.specs.TurnedAway.{readRefusal, shortFor}
+use Rattle.places.specs.Refusals.{noPlace}
+use Rattle.triangles.specs.Refusals.{triangleBeyond}
+use Rattle.bezier.specs.Refusals.{noTriangle}
+use Rattle.writer.specs.Refusals.{writeRefusal, noRoom}
+use Rattle.reader.specs.Refusals.{readRefusal, shortFor}
 
 -- `down` is 0 for the up triangle and 1 for the down triangle; another number names no triangle
 abbrev pub bezierExport : List ℤ → ℕ → ℕ → ℕ → ℕ → ℕ → ℕ → ℕ
@@ -40,7 +40,7 @@ pointExport net w h p q room =
 abbrev pub withRoom : Bool → ℕ → ℕ
 withRoom short n = cond short (cond (eqb n 0 || eqb n 3) 5 n) n
 
--- the count of bytes needs room for one number, and 5 is told of either output
+-- the count of bytes needs room for one number, and 5 is of either output
 abbrev pub writeExport : List ℤ → ℕ → ℕ → ℕ → ℕ → ℕ
 writeExport net w h room counts = writeRefusal net w h (ltb counts 1 || noRoom w h room)
 

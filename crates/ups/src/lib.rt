@@ -1,6 +1,6 @@
 // The static library: the calls of document 01 for C and Rust. A slice is a pointer and then a length; 0 is accepted,
 // another number refuses. As in Rust, a slice that is lent to be written overlaps no other.
-use bezier::Answer;
+use bezier::BezierAnswer;
 use bezier::bezier_net;
 use net::bad_size;
 use net::store_point;
@@ -24,7 +24,7 @@ ghost use lib.Dec.{ltb, eqb};
 ghost use lib.ListN.{length};
 ghost use Rattle.exact.specs.Filling.{over};
 ghost use Rattle.net.specs.Net.{triangleAt};
-ghost use Rattle.net.specs.TurnedAway.{outputAfter, vertexRefusal};
+ghost use Rattle.net.specs.Refusals.{outputAfter, vertexRefusal};
 ghost use Rattle.bezier.specs.BezierNet.{bezierNumbers};
 ghost use Rattle.surface.specs.SurfacePoint.{surfacePoint};
 ghost use Rattle.surface.specs.Answers.{viewPoint};
@@ -65,8 +65,8 @@ pub extern "C" fn ups_bezier_net(
     }
     let answer = bezier_net(net, w, h, i, j, down == 1, out);
     match answer {
-        Answer::Done => 0,
-        Answer::Refused(n) => n,
+        BezierAnswer::Done => 0,
+        BezierAnswer::Refused(n) => n,
     }
 }
 

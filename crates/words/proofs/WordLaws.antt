@@ -17,21 +17,21 @@ use Rattle.exact.specs.Filling.{runs}
 use Rattle.exact.proofs.Parts.{integers, sum-parts, difference-parts}
 use Rattle.exact.proofs.FillingLaws.{runs-of-list}
 use Rattle.net.proofs.Faults.{cond-true, cond-false}
-use Rattle.words.specs.NetFile.{word, kindOf, payloadOf, complement, signed, wordBytes, firstWord, AllBytes}
-use Rattle.words.specs.LowFirst.{turned, lowFirst, lowBytes}
+use Rattle.words.specs.NetFile.{word, wordKind, wordPayload, complement, signed, wordBytes, firstWord, AllBytes}
+use Rattle.words.specs.LowFirst.{swappedBytes, lowFirst, lowBytes}
 
 -- ---- kind and payload
 
-pub kind-of-word : (kind : ℕ) {payload : ℕ} → payload < 268435456 → kindOf (word kind payload) ≡ kind
+pub kind-of-word : (kind : ℕ) {payload : ℕ} → payload < 268435456 → wordKind (word kind payload) ≡ kind
 kind-of-word kind h = digits-div kind h
 
-pub payload-of-word : (kind : ℕ) {payload : ℕ} → payload < 268435456 → payloadOf (word kind payload) ≡ payload
+pub payload-of-word : (kind : ℕ) {payload : ℕ} → payload < 268435456 → wordPayload (word kind payload) ≡ payload
 payload-of-word kind h = digits-mod kind h
 
-pub payload-small : (v : ℕ) → payloadOf v < 268435456
+pub payload-small : (v : ℕ) → wordPayload v < 268435456
 payload-small v = omega arith
 
-pub word-of-parts : (v : ℕ) {kind : ℕ} → kindOf v ≡ kind → word kind (payloadOf v) ≡ v
+pub word-of-parts : (v : ℕ) {kind : ℕ} → wordKind v ≡ kind → word kind (wordPayload v) ≡ v
 word-of-parts v e = omega arith
 
 -- ---- bytes
@@ -81,16 +81,16 @@ bytes-of-first bytes long small =
     let fourth = byte-d a b c d (small 0) (small 1) (small 2) (small 3) in
     (λ t. first t ∷ second t ∷ third t ∷ fourth t ∷ []) ∙ runs-of-list 0 bytes 4 long
 
--- a word is told by its four bytes
+-- a word is determined by its four bytes
 pub same-first : (l m : List ℕ) → ((i : ℕ) → i < 4 → getD l i 0 ≡ getD m i 0) → firstWord l ≡ firstWord m
 unfolding firstWord
 same-first l m byte = λ t. byte 0 (lit< tt) t * 16777216 + byte 1 (lit< tt) t * 65536 + byte 2 (lit< tt) t * 256 + byte 3 (lit< tt) t
 
 -- ---- bytes the other way round
 
-pub turned-first : (bytes : List ℕ) → AllBytes bytes → turned (lowFirst bytes) ≡ firstWord bytes
-unfolding turned lowFirst firstWord
-turned-first bytes small =
+pub swapped-first : (bytes : List ℕ) → AllBytes bytes → swappedBytes (lowFirst bytes) ≡ firstWord bytes
+unfolding swappedBytes lowFirst firstWord
+swapped-first bytes small =
     let a = getD bytes 0 0 in
     let b = getD bytes 1 0 in
     let c = getD bytes 2 0 in
@@ -103,9 +103,9 @@ turned-first bytes small =
     ap (λ (v : ℕ). v % 256 * 16777216 + v / 256 % 256 * 65536 + v / 65536 % 256 * 256 + v / 16777216) order
     ∙ (λ t. first t * 16777216 + second t * 65536 + third t * 256 + fourth t)
 
-pub low-turned : (v : ℕ) → v < 4294967296 → lowBytes (turned v) ≡ wordBytes v
-unfolding turned lowBytes wordBytes
-low-turned v h =
+pub low-swapped : (v : ℕ) → v < 4294967296 → lowBytes (swappedBytes v) ≡ wordBytes v
+unfolding swappedBytes lowBytes wordBytes
+low-swapped v h =
     let a = v % 256 in
     let b = v / 256 % 256 in
     let c = v / 65536 % 256 in

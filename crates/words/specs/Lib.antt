@@ -2,5 +2,5 @@
 -- the bytes as the code takes them.
 pub mod NetFile
 pub mod LowFirst
-pub mod TurnedAway
+pub mod Refusals
 pub mod Answers

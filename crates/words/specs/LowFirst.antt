@@ -1,13 +1,13 @@
--- Words with their bytes the other way round, the first byte lowest. The code goes through these: four bytes in this
--- order are loaded and stored in one piece, and the other order is then one turn of the word.
+-- Words in little-endian order, the first byte lowest. The code goes through these: four bytes in this order are one
+-- load or store, and a byte swap gives the file's order, high byte first.
 use mathlib.Core.Path.{_≡_, refl}
 use mathlib.Core.List.{List, [], _∷_}
 use Prim.Native.Nat.{ℕ, _+_, _*_, _/_, _%_}
 use lib.ListN.{getD}
 
--- a word whose bytes are those of v in the other order
-unfoldable pub turned : ℕ → ℕ
-turned v = v % 256 * 16777216 + v / 256 % 256 * 65536 + v / 65536 % 256 * 256 + v / 16777216
+-- the byte swap of a word
+unfoldable pub swappedBytes : ℕ → ℕ
+swappedBytes v = v % 256 * 16777216 + v / 256 % 256 * 65536 + v / 65536 % 256 * 256 + v / 16777216
 
 -- the word in the first four bytes, and the four bytes of a word, first byte lowest
 unfoldable pub lowFirst : List ℕ → ℕ
@@ -17,6 +17,6 @@ unfoldable pub lowBytes : ℕ → List ℕ
 lowBytes v = v % 256 ∷ v / 256 % 256 ∷ v / 65536 % 256 ∷ v / 16777216 ∷ []
 
 -- worked cases: 1, 2, 3, 4 hex, both ways
-turns : (turned 16909060 ≡ 67305985) × (lowFirst (1 ∷ 2 ∷ 3 ∷ 4 ∷ []) ≡ 67305985) × (lowBytes 67305985 ≡ 1 ∷ 2 ∷ 3 ∷ 4 ∷ [])
-unfolding turned lowFirst lowBytes
-turns = (refl, refl, refl)
+swaps : (swappedBytes 16909060 ≡ 67305985) × (lowFirst (1 ∷ 2 ∷ 3 ∷ 4 ∷ []) ≡ 67305985) × (lowBytes 67305985 ≡ 1 ∷ 2 ∷ 3 ∷ 4 ∷ [])
+unfolding swappedBytes lowFirst lowBytes
+swaps = (refl, refl, refl)

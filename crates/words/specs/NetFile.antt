@@ -14,11 +14,11 @@ use Rattle.net.specs.Net.{number, pointStride}
 abbrev pub word : ℕ → ℕ → ℕ
 word kind payload = kind * 268435456 + payload
 
-abbrev pub kindOf : ℕ → ℕ
-kindOf v = v / 268435456
+abbrev pub wordKind : ℕ → ℕ
+wordKind v = v / 268435456
 
-abbrev pub payloadOf : ℕ → ℕ
-payloadOf v = v % 268435456
+abbrev pub wordPayload : ℕ → ℕ
+wordPayload v = v % 268435456
 
 -- 'Kinds: 1 width, 2 height; 3 x, 4 y, 5 z; 6 end'
 abbrev pub widthKind : ℕ
@@ -98,14 +98,14 @@ fileSize w h = pointPlace (points w h) + 4
 
 -- the sides, in the first two words
 abbrev pub fileWidth : List ℕ → ℕ
-fileWidth file = payloadOf (firstWord file)
+fileWidth file = wordPayload (firstWord file)
 
 abbrev pub fileHeight : List ℕ → ℕ
-fileHeight file = payloadOf (firstWord (drop 4 file))
+fileHeight file = wordPayload (firstWord (drop 4 file))
 
 -- the number in the first word of some bytes, and the control point in their first three
 abbrev pub firstNumber : List ℕ → ℤ
-firstNumber bytes = signed (payloadOf (firstWord bytes))
+firstNumber bytes = signed (wordPayload (firstWord bytes))
 
 unfoldable pub firstPoint : List ℕ → List ℤ
 firstPoint bytes = firstNumber bytes ∷ firstNumber (drop 4 bytes) ∷ firstNumber (drop 8 bytes) ∷ []
@@ -129,7 +129,7 @@ seventeen : (wordBytes (word heightKind 17) ≡ 32 ∷ 0 ∷ 0 ∷ 17 ∷ []) ×
 unfolding wordBytes firstWord
 seventeen = (refl, refl)
 
-kind-and-payload : (kindOf (word heightKind 17) ≡ heightKind) × (payloadOf (word heightKind 17) ≡ 17)
+kind-and-payload : (wordKind (word heightKind 17) ≡ heightKind) × (wordPayload (word heightKind 17) ≡ 17)
 kind-and-payload = (refl, refl)
 
 complements :

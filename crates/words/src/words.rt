@@ -5,11 +5,11 @@ ghost use Prim.Native.Nat.{_+_, _≤_, _<_};
 ghost use lib.IntN.{natAbs};
 ghost use lib.ListN.{length};
 ghost use lib.Seq.{sets};
-ghost use Rattle.net.specs.TurnedAway.{firstFault};
-ghost use Rattle.words.specs.NetFile.{word, payloadOf, complement, signed, wordBytes, numberBytes, firstWord, firstNumber};
-ghost use Rattle.words.specs.LowFirst.{turned, lowFirst, lowBytes};
-ghost use Rattle.words.specs.TurnedAway.{wordFaults};
-ghost use Rattle.words.specs.Answers.{wordTold, answer};
+ghost use Rattle.net.specs.Refusals.{firstFault};
+ghost use Rattle.words.specs.NetFile.{word, wordPayload, complement, signed, wordBytes, numberBytes, firstWord, firstNumber};
+ghost use Rattle.words.specs.LowFirst.{swappedBytes, lowFirst, lowBytes};
+ghost use Rattle.words.specs.Refusals.{wordFaults};
+ghost use Rattle.words.specs.Answers.{wordOutcome, answer};
 
 // What the bytes that are left begin with where a word is due: the payload of a word of the kind asked for, or 7 or 8.
 pub enum Parsed {
@@ -17,9 +17,9 @@ pub enum Parsed {
     Refused(u32),
 }
 
-// The word with its bytes in the other order.
-fn turn(v: u32) -> u32
-    ensures { λ r. ⌜ r ≡ turned v ⌝ }
+// The byte swap of a word.
+fn swap_bytes(v: u32) -> u32
+    ensures { λ r. ⌜ r ≡ swappedBytes v ⌝ }
 {
     v % 256 * 16777216 + v / 256 % 256 * 65536 + v / 65536 % 256 * 256 + v / 16777216
 }
@@ -41,12 +41,12 @@ fn first_word(bytes: &[u8]) -> u32
     requires { ⌜ 4 ≤ length (now bytes) ⌝ }
     ensures { λ r. ⌜ r ≡ firstWord (now (bytes .entry)) ⌝ }
 {
-    turn(load_low_first(bytes))
+    swap_bytes(load_low_first(bytes))
 }
 
 // The word that is due, by its kind.
 pub fn parse_word(left: &[u8], kind: u32) -> Parsed
-    ensures { λ r. ⌜ wordTold r ≡ answer (firstFault (wordFaults (now (left .entry)) kind)) (payloadOf (firstWord (now (left .entry))) ∷ []) ⌝ }
+    ensures { λ r. ⌜ wordOutcome r ≡ answer (firstFault (wordFaults (now (left .entry)) kind)) (wordPayload (firstWord (now (left .entry))) ∷ []) ⌝ }
 {
     if left.len() < 4 {
         return Parsed::Refused(7);
@@ -103,7 +103,7 @@ pub fn store_word(kind: u32, payload: u32, at: usize, out: &mut [u8])
     ensures { λ r. ⌜ now (out .exit) ≡ sets (now (out .entry)) at (wordBytes (word kind payload)) ⌝ }
 {
     let v = kind * 268435456 + payload;
-    store_low_first(turn(v), at, out);
+    store_low_first(swap_bytes(v), at, out);
 }
 
 // The bytes of a number's word, stored from a place on. For the writer, which has refused every number beyond its range

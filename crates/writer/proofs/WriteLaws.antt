@@ -12,12 +12,12 @@ use borrow.Author.Tests.{ltb-false}
 use Rattle.exact.specs.Filling.{over, runs}
 use Rattle.exact.proofs.FillingLaws.{length-runs, runs-same, sets-after, sets-over}
 use Rattle.net.specs.Net.{numbers, pointStride}
-use Rattle.net.specs.TurnedAway.{firstFault, outputAfter, badSize, anyBeyond}
+use Rattle.net.specs.Refusals.{firstFault, outputAfter, badSize, anyBeyond}
 use Rattle.net.proofs.Beyond.{cut, cut-short, cut-beyond}
 use Rattle.net.proofs.Ranges.{part-in-range}
 use Rattle.net.proofs.Faults.{Clear, none-clear, or-none}
 use Rattle.words.specs.NetFile.{word, widthKind, heightKind, xKind, yKind, zKind, endKind, wordBytes, points, numberBytes, pointBytes, netFile, fileSize, headSize, pointSize}
-use Rattle.writer.specs.TurnedAway.{writeFaults, writeRefusal, noRoom}
+use Rattle.writer.specs.Refusals.{writeFaults, writeRefusal, noRoom}
 use Rattle.writer.specs.Answers.{writeOutputWith}
 
 pub word-length : (v : ℕ) → length (wordBytes v) ≡ 4
@@ -104,7 +104,7 @@ cut-write-refusal net w h short =
 pub cut-write-output : (net : List ℤ) (w h : ℕ) (short : Bool) (out : List ℕ) → writeOutputWith net w h short out ≡ writeOutputWith (cut net w h) w h short out
 cut-write-output net w h short out = λ t. outputAfter (cut-write-refusal net w h short t) (sym (cut-file net w h) t) out
 
--- ---- what a net that is taken is known by
+-- ---- what is known of an accepted net
 
 pub record GoodNet (net : List ℤ) (w h room : ℕ) : Type 0 where
   pub size : badSize w h ≡ false

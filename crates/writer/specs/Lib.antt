@@ -1,3 +1,3 @@
--- The definitions that contracts cite: what is turned away, and what writing answers and leaves.
-pub mod TurnedAway
+-- The definitions that contracts cite: the refusals, and what writing answers and leaves.
+pub mod Refusals
 pub mod Answers

@@ -1,5 +1,5 @@
-// The writer: nothing is stored before it is known that nothing is refused. What the inner functions ask is met by
-// those below them in this file.
+// The writer: nothing is stored before it is known that nothing is refused. Callers in this file establish the
+// preconditions of the inner functions.
 use crate::answers::WriteAnswer;
 use net::POINT_STRIDE;
 use net::STRIDE;
@@ -17,10 +17,10 @@ ghost use lib.ListN.{length};
 ghost use lib.Seq.{sets};
 ghost use Rattle.exact.specs.Filling.{over, runs};
 ghost use Rattle.net.specs.Net.{numbers, pointStride};
-ghost use Rattle.net.specs.TurnedAway.{badSize, anyBeyond};
+ghost use Rattle.net.specs.Refusals.{badSize, anyBeyond};
 ghost use Rattle.words.specs.NetFile.{headSize, pointSize, pointPlace, pointBytes, netFile, fileSize};
-ghost use Rattle.writer.specs.TurnedAway.{noRoom, writeRefusal};
-ghost use Rattle.writer.specs.Answers.{writeTold, writeAnswerWith, writeOutputWith, writeAnswer, writeOutput};
+ghost use Rattle.writer.specs.Refusals.{noRoom, writeRefusal};
+ghost use Rattle.writer.specs.Answers.{writeOutcome, writeAnswerWith, writeOutputWith, writeAnswer, writeOutput};
 
 // So many bytes the file of a net of an accepted size has.
 fn file_size(w: usize, h: usize) -> usize
@@ -92,7 +92,7 @@ fn store_file(net: &[i32], w: usize, h: usize, out: &mut [u8])
 // The same as `write`, for the crates above: `short` is whether another output that they were lent is too short, which
 // is 5 too.
 pub fn write_with(net: &[i32], w: usize, h: usize, short: bool, out: &mut [u8]) -> WriteAnswer
-    ensures { λ r. ⌜ writeTold r ≡ writeAnswerWith (now (net .entry)) w h (short || noRoom w h (length (now (out .entry)))) ⌝ }
+    ensures { λ r. ⌜ writeOutcome r ≡ writeAnswerWith (now (net .entry)) w h (short || noRoom w h (length (now (out .entry)))) ⌝ }
     ensures { λ r. ⌜ now (out .exit) ≡ writeOutputWith (now (net .entry)) w h (short || noRoom w h (length (now (out .entry)))) (now (out .entry)) ⌝ }
 {
     let refusal = write_refusal(net, w, h, short, out.len());
@@ -108,7 +108,7 @@ pub fn write_with(net: &[i32], w: usize, h: usize, short: bool, out: &mut [u8]) 
 
 // The net's file over the front of `out`, or the first of 1, 2, 5, 3.
 pub fn write(net: &[i32], w: usize, h: usize, out: &mut [u8]) -> WriteAnswer
-    ensures { λ r. ⌜ writeTold r ≡ writeAnswer (now (net .entry)) w h (now (out .entry)) ⌝ }
+    ensures { λ r. ⌜ writeOutcome r ≡ writeAnswer (now (net .entry)) w h (now (out .entry)) ⌝ }
     ensures { λ r. ⌜ now (out .exit) ≡ writeOutput (now (net .entry)) w h (now (out .entry)) ⌝ }
 {
     write_with(net, w, h, false, out)

@@ -4,7 +4,7 @@ use lib.ListN.{length}
 use borrow.Author.Tests.{lt-ltb, le-ltb}
 use borrow.Author.Needs.{needs}
 use Rattle.net.proofs.Faults.{cond-true}
-use Rattle.bezier.specs.Answers.{answerTold}
+use Rattle.bezier.specs.Answers.{bezierOutcome}
 use Rattle.ups.proofs.Exports.{no-kind, bezier-outcome}
 use Rattle.ups.proofs.ups_bezier_net.Statement.{statement}
 use Rattle.ups.proofs.ups_bezier_net.Tie as tie
@@ -39,9 +39,9 @@ same-length c = search needs
 returns-3 : tie.Need-returns-3
 returns-3 c =
     let a = c .before .before .before .before .before .before .args in
-    let told = c .before .before .before .bezier-net .ensures in
+    let outcome = c .before .before .before .bezier-net .ensures in
     bezier-outcome (a .net .now) (a .w) (a .h) (a .i) (a .j) (a .down) (a .out .now) (le-ltb _ _ (c .before .before .before .before .before .if1 .left))
-    (λ t. (sym (ap answerTold (c .enum-told .given .1)) ∙ told .0) t .0) (told .1)
+    (λ t. (sym (ap bezierOutcome (c .enum-told .given .1)) ∙ outcome .0) t .0) (outcome .1)
 
 same-length-2 : tie.Need-same-length-2
 same-length-2 c = search needs
@@ -49,9 +49,9 @@ same-length-2 c = search needs
 returns-4 : tie.Need-returns-4
 returns-4 c =
     let a = c .before .before .before .before .before .before .before .args in
-    let told = c .before .before .before .before .bezier-net .ensures in
+    let outcome = c .before .before .before .before .bezier-net .ensures in
     bezier-outcome (a .net .now) (a .w) (a .h) (a .i) (a .j) (a .down) (a .out .now) (le-ltb _ _ (c .before .before .before .before .before .before .if1 .left))
-    (λ t. (sym (ap answerTold (c .before .answer .given .1)) ∙ told .0) t .0) (told .1)
+    (λ t. (sym (ap bezierOutcome (c .before .answer .given .1)) ∙ outcome .0) t .0) (outcome .1)
 
 pub ups-bezier-net-spec : {M : Type 1} → statement M
 ups-bezier-net-spec =

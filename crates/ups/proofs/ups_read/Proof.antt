@@ -10,11 +10,11 @@ use lib.ListN.{length}
 use lib.Seq.{lt-length-set}
 use borrow.Author.Tests.{ltb-false}
 use borrow.Author.Needs.{needs}
-use Rattle.net.specs.TurnedAway.{accepted}
+use Rattle.net.specs.Refusals.{accepted}
 use Rattle.net.proofs.Faults.{or-none, answered}
 use Rattle.words.specs.NetFile.{fileWidth, fileHeight, fileNumbers}
-use Rattle.reader.specs.TurnedAway.{shortFor, readRefusal}
-use Rattle.reader.specs.Answers.{readTold}
+use Rattle.reader.specs.Refusals.{shortFor, readRefusal}
+use Rattle.reader.specs.Answers.{readOutcome}
 use Rattle.reader.proofs.ReadLaws.{read-fits}
 use Rattle.ups.proofs.Exports.{exported, not-exported}
 use Rattle.ups.proofs.ups_read.Statement.{statement}
@@ -49,11 +49,11 @@ module _ (c : tie.After-known-told) where
   abbrev at : tie.After-read-with
   at = c .before .before .before .before
 
-  told : _≡_ {A = ℕ × List ℕ} (0, c .before .answer .given .0 .0 ∷ c .before .answer .given .0 .1 .0 ∷ []) (refusal at, cond (accepted (refusal at)) (sides at) [])
-  told = sym (ap readTold (c .before .answer .given .1)) ∙ at .read-with .ensures .0
+  outcome : _≡_ {A = ℕ × List ℕ} (0, c .before .answer .given .0 .0 ∷ c .before .answer .given .0 .1 .0 ∷ []) (refusal at, cond (accepted (refusal at)) (sides at) [])
+  outcome = sym (ap readOutcome (c .before .answer .given .1)) ∙ at .read-with .ensures .0
 
   sides-fit : 2 ≤ length (counts at)
-  sides-fit = room at (answered (refusal at) (sides at) told .0)
+  sides-fit = room at (answered (refusal at) (sides at) outcome .0)
 
 read-with-requires : tie.Need-read-with-requires
 read-with-requires c κs = search needs
@@ -79,7 +79,7 @@ same-length-2 c = search needs
 returns : tie.Need-returns
 returns c =
     let k = at c in
-    exported (refusal k) (sides k) (counts k) (fileNumbers (file k)) (net k) (told c) (sides-fit c) refl (k .read-with .ensures .1)
+    exported (refusal k) (sides k) (counts k) (fileNumbers (file k)) (net k) (outcome c) (sides-fit c) refl (k .read-with .ensures .1)
 
 same-length-3 : tie.Need-same-length-3
 same-length-3 c = search needs
@@ -88,7 +88,7 @@ returns-2 : tie.Need-returns-2
 returns-2 c =
     let k = c .before .before .before .before in
     not-exported (refusal k) (sides k) (counts k) (fileNumbers (file k)) (net k) (lit< tt)
-    (sym (ap readTold (c .before .answer2 .given .1)) ∙ k .read-with .ensures .0) (k .read-with .ensures .1)
+    (sym (ap readOutcome (c .before .answer2 .given .1)) ∙ k .read-with .ensures .0) (k .read-with .ensures .1)
 
 pub ups-read-spec : {M : Type 1} → statement M
 ups-read-spec =

@@ -5,7 +5,7 @@ use Prim.Native.Nat.{ℕ}
 use lib.IntN.{ℤ}
 use borrow.Author.Needs.{needs}
 use Rattle.steps.specs.RefinedNet.{refinedNet}
-use Rattle.refine.specs.Answers.{refineTold, refusalOf}
+use Rattle.refine.specs.Answers.{refineOutcome, refusalOf}
 use Rattle.ups.proofs.Exports.{left-exported}
 use Rattle.ups.proofs.ups_refine.Statement.{statement}
 use Rattle.ups.proofs.ups_refine.Tie as tie
@@ -35,8 +35,8 @@ returns : tie.Need-returns
 returns c =
     let k = c .before .before .before .before in
     let s = k .before .before .before in
-    let told = sym (ap refineTold (c .enum-told .given .1)) ∙ k .refine .ensures .0 in
-    left-exported (refusal s) (s .args .k) (s .args .w) (s .args .h) (result s) (s .args .out .now) (s .args .scratch .now) (k .refine .last .1 .1 .1 .1 .0) (k .refine .last .1 .1 .1 .1 .1 .0) (λ t. told t .0) (k .refine .ensures .1)
+    let outcome = sym (ap refineOutcome (c .enum-told .given .1)) ∙ k .refine .ensures .0 in
+    left-exported (refusal s) (s .args .k) (s .args .w) (s .args .h) (result s) (s .args .out .now) (s .args .scratch .now) (k .refine .last .1 .1 .1 .1 .0) (k .refine .last .1 .1 .1 .1 .1 .0) (λ t. outcome t .0) (k .refine .ensures .1)
 
 same-length-3 : tie.Need-same-length-3
 same-length-3 c = search needs
@@ -48,8 +48,8 @@ returns-2 : tie.Need-returns-2
 returns-2 c =
     let k = c .before .before .before .before .before in
     let s = k .before .before .before in
-    let told = sym (ap refineTold (c .before .answer .given .1)) ∙ k .refine .ensures .0 in
-    left-exported (refusal s) (s .args .k) (s .args .w) (s .args .h) (result s) (s .args .out .now) (s .args .scratch .now) (k .refine .last .1 .1 .1 .1 .0) (k .refine .last .1 .1 .1 .1 .1 .0) (λ t. told t .0) (k .refine .ensures .1)
+    let outcome = sym (ap refineOutcome (c .before .answer .given .1)) ∙ k .refine .ensures .0 in
+    left-exported (refusal s) (s .args .k) (s .args .w) (s .args .h) (result s) (s .args .out .now) (s .args .scratch .now) (k .refine .last .1 .1 .1 .1 .0) (k .refine .last .1 .1 .1 .1 .1 .0) (λ t. outcome t .0) (k .refine .ensures .1)
 
 pub ups-refine-spec : {M : Type 1} → statement M
 ups-refine-spec =

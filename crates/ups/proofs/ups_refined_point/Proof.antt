@@ -12,12 +12,12 @@ use borrow.Author.Tests.{ltb-false}
 use Rattle.exact.specs.Filling.{over}
 use Rattle.exact.proofs.FillingLaws.{sets-over}
 use Rattle.exact.proofs.SignedCode.{reads-back}
-use Rattle.net.specs.TurnedAway.{accepted}
+use Rattle.net.specs.Refusals.{accepted}
 use Rattle.net.proofs.Faults.{answered, not-accepted, when-refused}
-use Rattle.surface.specs.Answers.{pointTold}
+use Rattle.surface.specs.Answers.{pointOutcome}
 use Rattle.steps.specs.RefinedNet.{refinedNet}
 use Rattle.refined_points.specs.Answers.{refusalAt, refinedSurfacePoint}
-use Rattle.refined_points.proofs.RefinedPoints.{point-taken}
+use Rattle.refined_points.proofs.RefinedPoints.{point-accepted}
 use Rattle.ups.proofs.Exports.{left-exported}
 use Rattle.ups.proofs.ups_refined_point.Statement.{statement}
 use Rattle.ups.proofs.ups_refined_point.Tie as tie
@@ -38,9 +38,9 @@ values s = refinedSurfacePoint (s .args .net .now) (s .args .w) (s .args .h) (s 
 room : (s : tie.Start) → refusal s ≡ 0 → 3 ≤ length (s .args .point .now)
 room s none =
     ltb-false (length (s .args .point .now)) 3
-    (point-taken (s .args .net .now) (s .args .w) (s .args .h) (s .args .k) (s .args .p) (s .args .q) (short s) (length (s .args .out .now)) (length (s .args .scratch .now)) none .2)
+    (point-accepted (s .args .net .now) (s .args .w) (s .args .h) (s .args .k) (s .args .p) (s .args .q) (short s) (length (s .args .out .now)) (length (s .args .scratch .now)) none .2)
 
--- what the answer with a point tells
+-- the outcome of an answer with a point
 module _ (c : tie.After-answer) where
   abbrev call : tie.After-refined-point-with
   call = c .before .before .before .before
@@ -48,11 +48,11 @@ module _ (c : tie.After-answer) where
   abbrev start : tie.Start
   start = call .before .before .before
 
-  told : _≡_ {A = ℕ × List ℤ} (pointTold (call .refined-point-with .result)) (refusal start, cond (accepted (refusal start)) (values start) [])
-  told = call .refined-point-with .ensures .0
+  outcome : _≡_ {A = ℕ × List ℤ} (pointOutcome (call .refined-point-with .result)) (refusal start, cond (accepted (refusal start)) (values start) [])
+  outcome = call .refined-point-with .ensures .0
 
   given : (let point = c .answer .given .0 .0 in (refusal start ≡ 0) × (point .x ∷ point .y ∷ point .z ∷ [] ≡ values start))
-  given = answered (refusal start) (values start) (sym (ap pointTold (c .answer .given .1)) ∙ told)
+  given = answered (refusal start) (values start) (sym (ap pointOutcome (c .answer .given .1)) ∙ outcome)
 
 refined-point-with-requires : tie.Need-refined-point-with-requires
 refined-point-with-requires c κs = search needs
@@ -109,9 +109,9 @@ returns-2 : tie.Need-returns-2
 returns-2 c =
     let k = c .before .before .before .before .before in
     let s = k .before .before .before in
-    let told = sym (ap pointTold (c .before .answer2 .given .1)) ∙ k .refined-point-with .ensures .0 in
-    let left = left-exported (refusal s) (s .args .k) (s .args .w) (s .args .h) (result s) (s .args .out .now) (s .args .scratch .now) (k .refined-point-with .last .1 .1 .1 .1 .1 .1 .1 .0) (k .refined-point-with .last .1 .1 .1 .1 .1 .1 .1 .1 .0) (λ t. told t .0) (k .refined-point-with .ensures .1) in
-    let there = not-accepted (refusal s) (values s) (lit< tt) told in
+    let outcome = sym (ap pointOutcome (c .before .answer2 .given .1)) ∙ k .refined-point-with .ensures .0 in
+    let left = left-exported (refusal s) (s .args .k) (s .args .w) (s .args .h) (result s) (s .args .out .now) (s .args .scratch .now) (k .refined-point-with .last .1 .1 .1 .1 .1 .1 .1 .0) (k .refined-point-with .last .1 .1 .1 .1 .1 .1 .1 .1 .0) (λ t. outcome t .0) (k .refined-point-with .ensures .1) in
+    let there = not-accepted (refusal s) (values s) (lit< tt) outcome in
     (left .0, (left .1 .0, (left .1 .1, when-refused (c .before .answer2 .given .0 .0) (over (values s) (s .args .point .now)) (s .args .point .now) (λ z. there (sym (left .0) ∙ z)))))
 
 pub ups-refined-point-spec : {M : Type 1} → statement M

@@ -9,7 +9,7 @@ use borrow.Author.Tests.{lt-ltb, le-ltb}
 use borrow.Author.Needs.{needs}
 use Rattle.exact.specs.Filling.{over}
 use Rattle.net.proofs.Faults.{answered, not-accepted}
-use Rattle.surface.specs.Answers.{viewTold, viewPoint, viewAnswer}
+use Rattle.surface.specs.Answers.{viewOutcome, viewPoint, viewAnswer}
 use Rattle.ups.proofs.Exports.{point-refused, point-accepted}
 use Rattle.ups.proofs.ups_view_point.Statement.{statement}
 use Rattle.ups.proofs.ups_view_point.Tie as tie
@@ -25,8 +25,8 @@ unfolding viewAnswer
 returns c =
     let k = c .before .before in
     let a = k .before .before .before .before .args in
-    let told = answered _ (viewPoint (a .net .now) (a .w) (a .h) (a .p) (a .q)) (sym (ap viewTold (k .answer .given .1)) ∙ k .before .before .view-point .ensures) in
-    (point-accepted (a .net .now) (a .w) (a .h) (a .p) (a .q) (length (a .out .now)) true (lt-ltb _ _ (c .if1 .taken)) (told .0), refl)
+    let outcome = answered _ (viewPoint (a .net .now) (a .w) (a .h) (a .p) (a .q)) (sym (ap viewOutcome (k .answer .given .1)) ∙ k .before .before .view-point .ensures) in
+    (point-accepted (a .net .now) (a .w) (a .h) (a .p) (a .q) (length (a .out .now)) true (lt-ltb _ _ (c .if1 .taken)) (outcome .0), refl)
 
 store-view-requires : tie.Need-store-view-requires
 store-view-requires c κs = search needs
@@ -46,10 +46,10 @@ returns-2 c =
     let e = c .before .before .before .before in
     let k = e .before .before in
     let a = k .before .before .before .before .args in
-    let told = answered _ (viewPoint (a .net .now) (a .w) (a .h) (a .p) (a .q)) (sym (ap viewTold (k .answer .given .1)) ∙ k .before .before .view-point .ensures) in
+    let outcome = answered _ (viewPoint (a .net .now) (a .w) (a .h) (a .p) (a .q)) (sym (ap viewOutcome (k .answer .given .1)) ∙ k .before .before .view-point .ensures) in
     let out = a .out .now in (
-      point-accepted (a .net .now) (a .w) (a .h) (a .p) (a .q) (length out) false (le-ltb _ _ (e .if1 .left)) (told .0),
-      c .before .before .store-view .ensures ∙ ap (λ (l : List Float). over l out) (told .1),
+      point-accepted (a .net .now) (a .w) (a .h) (a .p) (a .q) (length out) false (le-ltb _ _ (e .if1 .left)) (outcome .0),
+      c .before .before .store-view .ensures ∙ ap (λ (l : List Float). over l out) (outcome .1),
     )
 
 returns-3 : tie.Need-returns-3
@@ -57,10 +57,10 @@ unfolding viewAnswer
 returns-3 c =
     let k = c .before .before in
     let a = k .before .before .before .before .args in
-    let told = sym (ap viewTold (k .answer2 .given .1)) ∙ k .before .before .view-point .ensures in
+    let outcome = sym (ap viewOutcome (k .answer2 .given .1)) ∙ k .before .before .view-point .ensures in
     point-refused (a .net .now) (a .w) (a .h) (a .p) (a .q) (a .out .now) (viewPoint (a .net .now) (a .w) (a .h) (a .p) (a .q))
-    (λ t. told t .0)
-    (not-accepted _ (viewPoint (a .net .now) (a .w) (a .h) (a .p) (a .q)) (lit< tt) told)
+    (λ t. outcome t .0)
+    (not-accepted _ (viewPoint (a .net .now) (a .w) (a .h) (a .p) (a .q)) (lit< tt) outcome)
     (c .with-room .ensures)
 
 pub ups-view-point-spec : {M : Type 1} → statement M

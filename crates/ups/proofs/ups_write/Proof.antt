@@ -8,11 +8,11 @@ use lib.IntN.{ℤ}
 use lib.ListN.{length}
 use borrow.Author.Tests.{ltb-false}
 use borrow.Author.Needs.{needs}
-use Rattle.net.specs.TurnedAway.{accepted}
+use Rattle.net.specs.Refusals.{accepted}
 use Rattle.net.proofs.Faults.{or-none, answered}
 use Rattle.words.specs.NetFile.{netFile, fileSize}
-use Rattle.writer.specs.TurnedAway.{noRoom, writeRefusal}
-use Rattle.writer.specs.Answers.{writeTold}
+use Rattle.writer.specs.Refusals.{noRoom, writeRefusal}
+use Rattle.writer.specs.Answers.{writeOutcome}
 use Rattle.writer.proofs.WriteLaws.{write-fits}
 use Rattle.ups.proofs.Exports.{exported, not-exported}
 use Rattle.ups.proofs.ups_write.Statement.{statement}
@@ -50,11 +50,11 @@ module _ (c : tie.After-known-told) where
   abbrev at : tie.After-write-with
   at = c .before .before .before .before .before
 
-  told : _≡_ {A = ℕ × List ℕ} (0, c .before .answer .given .0 .0 ∷ []) (refusal at, cond (accepted (refusal at)) (fileSize (w at) (h at) ∷ []) [])
-  told = sym (ap writeTold (c .before .answer .given .1)) ∙ at .write-with .ensures .0
+  outcome : _≡_ {A = ℕ × List ℕ} (0, c .before .answer .given .0 .0 ∷ []) (refusal at, cond (accepted (refusal at)) (fileSize (w at) (h at) ∷ []) [])
+  outcome = sym (ap writeOutcome (c .before .answer .given .1)) ∙ at .write-with .ensures .0
 
   count-fits : 1 ≤ length (counts at)
-  count-fits = room at (answered (refusal at) (fileSize (w at) (h at) ∷ []) told .0)
+  count-fits = room at (answered (refusal at) (fileSize (w at) (h at) ∷ []) outcome .0)
 
 write-with-requires : tie.Need-write-with-requires
 write-with-requires c κs = search needs
@@ -77,7 +77,7 @@ same-length-2 c = search needs
 returns : tie.Need-returns
 returns c =
     let k = at c in
-    exported (refusal k) (fileSize (w k) (h k) ∷ []) (counts k) (netFile (net k) (w k) (h k)) (out k) (told c) (count-fits c) refl (k .write-with .ensures .1)
+    exported (refusal k) (fileSize (w k) (h k) ∷ []) (counts k) (netFile (net k) (w k) (h k)) (out k) (outcome c) (count-fits c) refl (k .write-with .ensures .1)
 
 same-length-3 : tie.Need-same-length-3
 same-length-3 c = search needs
@@ -86,7 +86,7 @@ returns-2 : tie.Need-returns-2
 returns-2 c =
     let k = c .before .before .before .before .before in
     not-exported (refusal k) (fileSize (w k) (h k) ∷ []) (counts k) (netFile (net k) (w k) (h k)) (out k) (lit< tt)
-    (sym (ap writeTold (c .before .answer2 .given .1)) ∙ k .write-with .ensures .0) (k .write-with .ensures .1)
+    (sym (ap writeOutcome (c .before .answer2 .given .1)) ∙ k .write-with .ensures .0) (k .write-with .ensures .1)
 
 pub ups-write-spec : {M : Type 1} → statement M
 ups-write-spec =

@@ -12,8 +12,8 @@ use Rattle.exact.specs.Filling.{over, runs}
 use Rattle.net.specs.Net.{Triangle, triangleAt}
 use Rattle.triangles.specs.Corners.{valuesIn}
 use Rattle.bezier.specs.Weights.{threeAt}
-use Rattle.bezier.specs.TurnedAway.{bezierRefusal}
-use Rattle.bezier.proofs.BezierNets.{GoodTriangle, good-triangle, formed, formed-within, turned-values, pointsOf, points-of-net, accepted-bezier, refused-bezier}
+use Rattle.bezier.specs.Refusals.{bezierRefusal}
+use Rattle.bezier.proofs.BezierNets.{GoodTriangle, good-triangle, formed, formed-within, reordered-values, pointsOf, points-of-net, accepted-bezier, refused-bezier}
 use Rattle.bezier.proofs.bezier.bezier_net.Statement.{statement}
 use Rattle.bezier.proofs.bezier.bezier_net.Tie as tie
 
@@ -53,17 +53,17 @@ module _ (c : tie.Else1) where
   within = formed-within net w i j down (good .lies) (good .range)
 
 -- what each call of `coordinate_values` and of `ordinates` gave
-module _ (c : tie.After-turn) where
+module _ (c : tie.After-reorder-controls) where
   abbrev at : tie.Else1
   at = c .before .before
 
-  value : (x : ℕ) {values : List ℤ} → values ≡ valuesIn (c .turn .result) x → values ≡ formed (net at) (w at) (triangle at) x
-  value = turned-values (net at) (w at) (triangle at) (c .before .load-triangle .ensures) (c .turn .ensures)
+  value : (x : ℕ) {values : List ℤ} → values ≡ valuesIn (c .reorder-controls .result) x → values ≡ formed (net at) (w at) (triangle at) x
+  value = reordered-values (net at) (w at) (triangle at) (c .before .load-triangle .ensures) (c .reorder-controls .ensures)
 
-  small : (x : ℕ) → x < 3 → {values : List ℤ} → values ≡ valuesIn (c .turn .result) x → Within 16777216 values
+  small : (x : ℕ) → x < 3 → {values : List ℤ} → values ≡ valuesIn (c .reorder-controls .result) x → Within 16777216 values
   small x k e = subst (Within 16777216) (sym (value x e)) (within at x k)
 
-  points : (x : ℕ) {values numbers : List ℤ} → values ≡ valuesIn (c .turn .result) x → numbers ≡ pointsOf values →
+  points : (x : ℕ) {values numbers : List ℤ} → values ≡ valuesIn (c .reorder-controls .result) x → numbers ≡ pointsOf values →
       numbers ≡ pointsOf (formed (net at) (w at) (triangle at) x)
   points x e f = f ∙ ap pointsOf (value x e)
 
@@ -76,8 +76,8 @@ returns c = refused-bezier _ _ _ _ _ _ _ (c .before .bezier-refusal .ensures) (c
 load-triangle-requires : tie.Need-load-triangle-requires
 load-triangle-requires c κs = good c .lies
 
-turn-requires : tie.Need-turn-requires
-turn-requires c κs = search needs
+reorder-controls-requires : tie.Need-reorder-controls-requires
+reorder-controls-requires c κs = search needs
 
 coordinate-values-requires : tie.Need-coordinate-values-requires
 coordinate-values-requires c κs = search needs
@@ -123,7 +123,7 @@ bezier-net-spec =
     bezier-refusal-requires
     returns
     load-triangle-requires
-    turn-requires
+    reorder-controls-requires
     coordinate-values-requires
     ordinates-requires
     coordinate-values-requires-2

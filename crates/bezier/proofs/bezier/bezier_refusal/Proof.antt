@@ -3,9 +3,9 @@ use mathlib.Core.Bool.{false}
 use mathlib.Core.Path.{_≡_, refl, sym, _∙_}
 use borrow.Author.Tests.{lt-ltb, le-ltb}
 use borrow.Author.Needs.{needs}
-use Rattle.net.specs.TurnedAway.{badSize, shortNet}
+use Rattle.net.specs.Refusals.{badSize, shortNet}
 use Rattle.net.proofs.Faults.{cond-true, cond-false}
-use Rattle.bezier.specs.TurnedAway.{noTriangle}
+use Rattle.bezier.specs.Refusals.{noTriangle}
 use Rattle.bezier.proofs.BezierNets.{in-net-triangle}
 use Rattle.bezier.proofs.bezier.bezier_refusal.Statement.{statement}
 use Rattle.bezier.proofs.bezier.bezier_refusal.Tie as tie

@@ -1,4 +1,4 @@
--- `bezier::bezier::write_points` meets its contract: each turn stores one run of three numbers more.
+-- `bezier::bezier::write_points` meets its contract: each iteration stores one run of three numbers more.
 use mathlib.Core.List.{List, [], _∷_}
 use mathlib.Core.Path.{_≡_, refl, ap, _∙_}
 use Prim.Native.Nat.{ℕ, _-_, _*_, _≤_}

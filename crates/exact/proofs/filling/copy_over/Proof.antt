@@ -1,4 +1,4 @@
--- `exact::filling::copy_over` meets its contract: each turn stores one run of one number more (`over-more`),
+-- `exact::filling::copy_over` meets its contract: each iteration stores one run of one number more (`over-more`),
 -- and the runs of a list's numbers are the list.
 use mathlib.Core.Path.{_≡_, refl, sym, _∙_, ap}
 use mathlib.Core.List.{List, [], _∷_}

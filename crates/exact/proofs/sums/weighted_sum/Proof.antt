@@ -14,7 +14,7 @@ use Rattle.exact.specs.WeightedSum.{weightedSum}
 use Rattle.exact.proofs.Expressions.{Expr, var, _⊕_, _⊗_, plus, times}
 use Rattle.exact.proofs.Sizes.{size-of-fits, reach-bound}
 use Rattle.exact.proofs.SignedCode.{Leaf, of-number, of-bits, of-narrow, reads-exact, operation-fits}
-use Rattle.exact.proofs.WeightedSumLaws.{sum-turn, sum-end, within-at}
+use Rattle.exact.proofs.WeightedSumLaws.{sum-step, sum-end, within-at}
 use Rattle.exact.proofs.sums.weighted_sum.Statement.{statement}
 use Rattle.exact.proofs.sums.weighted_sum.Tie as tie
 
@@ -27,7 +27,7 @@ Inv-loop weights values sum₀ i₀ sum i =
 abbrev μ-loop : tie.MeasureT-loop
 μ-loop weights values sum₀ i₀ sum i = length weights - i
 
--- what is read at i, and the three leaves of a turn: the sum so far, the weight, and the value cast to an i64
+-- what is read at i, and the three leaves of an iteration: the sum so far, the weight, and the value cast to an i64
 module _ (c : tie.After-v Inv-loop μ-loop) where
   abbrev i : ℕ
   i = c .before .before .before .loop .i
@@ -95,7 +95,7 @@ loop-again c =
     let grown = reach-bound plus sum (w *ℤ v) (c .before .before .before .loop .inv .2) term in (
       search needs,
       ap (λ (z : ℤ). z +ℤ weightedSum (drop (i c + 1) (weights c)) (drop (i c + 1) (values c))) reads
-          ∙ sum-turn sum (weights c) (values c) (i c) (search needs) (search needs)
+          ∙ sum-step sum (weights c) (values c) (i c) (search needs) (search needs)
           ∙ c .before .before .before .loop .inv .1,
       omega (arith, ap natAbs reads, grown),
     )

@@ -8,15 +8,15 @@ use lib.IntN.{ℤ}
 use lib.ListN.{length, getD}
 use borrow.Author.Needs.{needs}
 use Rattle.exact.specs.Filling.{over}
-use Rattle.net.specs.TurnedAway.{badSize, outputAfter, AcceptedNet}
+use Rattle.net.specs.Refusals.{badSize, outputAfter, AcceptedNet}
 use Rattle.net.proofs.Faults.{answered, not-accepted, refused-answer, when-accepted, when-refused}
 use Rattle.subdivision.specs.Refinement.{refinedSide}
 use Rattle.steps.specs.RefinedNet.{refinedNet}
-use Rattle.refine.specs.TurnedAway.{tooShort, refineRefusal}
+use Rattle.refine.specs.Refusals.{tooShort, refineRefusal}
 use Rattle.words.specs.NetFile.{fileWidth, fileHeight}
 use Rattle.words.specs.Answers.{answer}
-use Rattle.reader.specs.TurnedAway.{readRefusal, shortFor}
-use Rattle.reader.specs.Answers.{readTold}
+use Rattle.reader.specs.Refusals.{readRefusal, shortFor}
+use Rattle.reader.specs.Answers.{readOutcome}
 use Rattle.reader.proofs.ReadLaws.{read-parts, good-head}
 use Rattle.netfile.specs.Promises.{Readable}
 use Rattle.listing_text.specs.Printed.{listRefusal, refinedFile}
@@ -47,19 +47,19 @@ module _ (c : tie.After-found) where
   abbrev early : ℕ
   early = readRefusal (file start) (shortFor (file start) (length (lent start)))
 
-  told : (early ≡ 0) × (c .found .given .0 .0 ∷ c .found .given .0 .1 .0 ∷ [] ≡ fileWidth (file start) ∷ fileHeight (file start) ∷ [])
-  told = answered early (fileWidth (file start) ∷ fileHeight (file start) ∷ []) (sym (ap readTold (c .found .given .1)) ∙ call .read .ensures .0)
+  outcome : (early ≡ 0) × (c .found .given .0 .0 ∷ c .found .given .0 .1 .0 ∷ [] ≡ fileWidth (file start) ∷ fileHeight (file start) ∷ [])
+  outcome = answered early (fileWidth (file start) ∷ fileHeight (file start) ∷ []) (sym (ap readOutcome (c .found .given .1)) ∙ call .read .ensures .0)
 
   wide : c .found .given .0 .0 ≡ fileWidth (file start)
-  wide = ap (λ (l : List ℕ). getD l 0 0) (told .1)
+  wide = ap (λ (l : List ℕ). getD l 0 0) (outcome .1)
 
   high : c .found .given .0 .1 .0 ≡ fileHeight (file start)
-  high = ap (λ (l : List ℕ). getD l 1 0) (told .1)
+  high = ap (λ (l : List ℕ). getD l 1 0) (outcome .1)
 
   size-read : badSize (c .found .given .0 .0) (c .found .given .0 .1 .0) ≡ false
   size-read =
       (λ t. badSize (wide t) (high t))
-      ∙ good-head (file start) false (length (lent start)) (read-parts (file start) (shortFor (file start) (length (lent start))) (told .0) .0) .size
+      ∙ good-head (file start) false (length (lent start)) (read-parts (file start) (shortFor (file start) (length (lent start))) (outcome .0) .0) .size
 
 read-requires : tie.Need-read-requires
 read-requires c κs = search needs
@@ -85,24 +85,24 @@ returns c =
     let s = start f in
     let w = fileWidth (file s) in
     let h = fileHeight (file s) in
-    let space = length (refined s) in
+    let outRoom = length (refined s) in
     let read = call f .read .ensures .1 in
-    let taken : Readable (file s) (lent s) = told f .0 in
+    let taken : Readable (file s) (lent s) = outcome f .0 in
     let found =
     c .before .refine-read .ensures .0
-    ∙ (λ t. answer (refineRefusal (read t) (wide f t) (high f t) 1 (tooShort (wide f t) (high f t) 1 space 0)) (refinedSide (wide f t) ∷ refinedSide (high f t) ∷ []))
-    ∙ (λ t. answer (refusal-after (file s) (lent s) space taken t) (refinedSide w ∷ refinedSide h ∷ [])) in
+    ∙ (λ t. answer (refineRefusal (read t) (wide f t) (high f t) 1 (tooShort (wide f t) (high f t) 1 outRoom 0)) (refinedSide (wide f t) ∷ refinedSide (high f t) ∷ []))
+    ∙ (λ t. answer (refusal-after (file s) (lent s) outRoom taken t) (refinedSide w ∷ refinedSide h ∷ [])) in
     let left =
     c .before .refine-read .ensures .1
-    ∙ (λ t. outputAfter (refineRefusal (read t) (wide f t) (high f t) 1 (tooShort (wide f t) (high f t) 1 space 0)) (refinedNet (read t) (wide f t) (high f t) 1) (refined s))
-    ∙ (λ t. outputAfter (refusal-after (file s) (lent s) space taken t) (refined-after (file s) (lent s) space taken t) (refined s)) in (
+    ∙ (λ t. outputAfter (refineRefusal (read t) (wide f t) (high f t) 1 (tooShort (wide f t) (high f t) 1 outRoom 0)) (refinedNet (read t) (wide f t) (high f t) 1) (refined s))
+    ∙ (λ t. outputAfter (refusal-after (file s) (lent s) outRoom taken t) (refined-after (file s) (lent s) outRoom taken t) (refined s)) in (
       found,
       (
         read,
         (
           left,
           ready (c .before .refine-read .result) (refusal s) (refinedSide w) (refinedSide h) (c .before .refine-read .last .1 .1 .1 .0) found
-              (λ none. subst (λ (l : List ℤ). AcceptedNet l (refinedSide w) (refinedSide h)) (when-accepted (refusal s) (over (refinedFile (file s)) (refined s)) (refined s) none ∙ sym left) (accepted-after (file s) (lent s) space taken (refined s) refl none)),
+              (λ none. subst (λ (l : List ℤ). AcceptedNet l (refinedSide w) (refinedSide h)) (when-accepted (refusal s) (over (refinedFile (file s)) (refined s)) (refined s) none ∙ sym left) (accepted-after (file s) (lent s) outRoom taken (refined s) refl none)),
         ),
       ),
     )
@@ -116,9 +116,9 @@ returns-2 c =
     let s = k .before .before .before in
     let early = readRefusal (file s) (shortFor (file s) (length (lent s))) in
     let sides = fileWidth (file s) ∷ fileHeight (file s) ∷ [] in
-    let told = sym (ap readTold (c .before .found2 .given .1)) ∙ k .read .ensures .0 in
-    let same : c .before .found2 .given .0 .0 ≡ early = λ t. told t .0 in
-    let there = not-accepted early sides (lit< tt) told in
+    let outcome = sym (ap readOutcome (c .before .found2 .given .1)) ∙ k .read .ensures .0 in
+    let same : c .before .found2 .given .0 .0 ≡ early = λ t. outcome t .0 in
+    let there = not-accepted early sides (lit< tt) outcome in
     let first = refused-reading (file s) (lent s) (length (refined s)) same (λ z. there (sym same ∙ z)) in (
       refused-answer (refusal s) (refinedSide (fileWidth (file s)) ∷ refinedSide (fileHeight (file s)) ∷ []) first (λ z. there (sym same ∙ z)),
       (k .read .ensures .1, (when-refused (refusal s) (over (refinedFile (file s)) (refined s)) (refined s) (λ z. there (sym same ∙ first ∙ z)), tt)),

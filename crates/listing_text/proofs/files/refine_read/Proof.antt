@@ -7,12 +7,12 @@ use native.Mathlib.Omega.{arith}
 use lib.Dec.{T}
 use lib.ListN.{length}
 use borrow.Author.Needs.{needs}
-use Rattle.net.specs.TurnedAway.{accepted}
+use Rattle.net.specs.Refusals.{accepted}
 use Rattle.net.proofs.Faults.{accepted-answer, refused-answer}
 use Rattle.net.proofs.Places.{GoodSize, good-size}
 use Rattle.subdivision.specs.Refinement.{refinedSide}
-use Rattle.refine.specs.TurnedAway.{tooShort, refineRefusal}
-use Rattle.refine.specs.Answers.{refineTold}
+use Rattle.refine.specs.Refusals.{tooShort, refineRefusal}
+use Rattle.refine.specs.Answers.{refineOutcome}
 use Rattle.listing_text.proofs.files.refine_read.Statement.{statement}
 use Rattle.listing_text.proofs.files.refine_read.Tie as tie
 
@@ -57,8 +57,8 @@ returns : tie.Need-returns
 returns c =
     let k = c .before .before .before .before in
     let s = k .before .before .before in
-    let told = sym (ap refineTold (c .enum-told .given .1)) ∙ k .refine .ensures .0 in
-    (accepted-answer (refusal s) (refinedSide (s .args .w) ∷ refinedSide (s .args .h) ∷ []) (λ t. sym told t .0) refl, k .refine .ensures .1 .0)
+    let outcome = sym (ap refineOutcome (c .enum-told .given .1)) ∙ k .refine .ensures .0 in
+    (accepted-answer (refusal s) (refinedSide (s .args .w) ∷ refinedSide (s .args .h) ∷ []) (λ t. sym outcome t .0) refl, k .refine .ensures .1 .0)
 
 same-length-2 : tie.Need-same-length-2
 same-length-2 c = search needs
@@ -67,8 +67,8 @@ returns-2 : tie.Need-returns-2
 returns-2 c =
     let k = c .before .before .before .before .before in
     let s = k .before .before .before in
-    let told = sym (ap refineTold (c .before .answer .given .1)) ∙ k .refine .ensures .0 in
-    (refused-answer (refusal s) (refinedSide (s .args .w) ∷ refinedSide (s .args .h) ∷ []) (λ t. told t .0) (not-done (refusal s) (λ t. told t .1) (λ t. told t .0)), k .refine .ensures .1 .0)
+    let outcome = sym (ap refineOutcome (c .before .answer .given .1)) ∙ k .refine .ensures .0 in
+    (refused-answer (refusal s) (refinedSide (s .args .w) ∷ refinedSide (s .args .h) ∷ []) (λ t. outcome t .0) (not-done (refusal s) (λ t. outcome t .1) (λ t. outcome t .0)), k .refine .ensures .1 .0)
 
 pub refine-read-spec : {M : Type 1} → statement M
 refine-read-spec =

@@ -1,4 +1,4 @@
--- `listing_text::lines::store_text` meets its contract: each turn stores one byte more of the text.
+-- `listing_text::lines::store_text` meets its contract: each iteration stores one byte more of the text.
 use mathlib.Core.Path.{_≡_, refl, sym, ap, _∙_}
 use mathlib.Core.List.{[], _∷_}
 use Prim.Native.Nat.{ℕ, _+_, _-_, _≤_}

@@ -15,17 +15,17 @@ use Rattle.exact.proofs.Sizes.{size-of-fits}
 use Rattle.exact.proofs.SignedCode.{reads-back, reads-as}
 use Rattle.net.proofs.Places.{GoodSize, good-size}
 use Rattle.surface.specs.SurfacePoint.{coordinate}
-use Rattle.surface.specs.TurnedAway.{pointRefusal}
-use Rattle.surface.specs.Answers.{pointTold}
+use Rattle.surface.specs.Refusals.{pointRefusal}
+use Rattle.surface.specs.Answers.{pointOutcome}
 use Rattle.decimal.proofs.StoringLaws.{stored-as, stored-line}
 use Rattle.listing_text.specs.Listing.{headLine, pointLine, pieceText, longestLine}
 use Rattle.listing_text.proofs.LineLaws.{head-length, point-length}
-use Rattle.listing_text.proofs.PieceLaws.{vertex-taken, point-told, not-refused, vertex-column, vertex-row, first-piece, vertex-piece}
+use Rattle.listing_text.proofs.PieceLaws.{vertex-accepted, point-outcome, not-refused, vertex-column, vertex-row, first-piece, vertex-piece}
 use Rattle.surface.specs.declared.answers.Point.{Point}
 use Rattle.listing_text.proofs.pieces.list_piece.Statement.{statement}
 use Rattle.listing_text.proofs.pieces.list_piece.Tie as tie
 
--- the sides of a net that is taken
+-- the sides of an accepted net
 size : (c : tie.Start) → GoodSize (c .args .w) (c .args .h)
 size c = good-size (c .args .w) (c .args .h) (c .pre .0 .size)
 
@@ -77,7 +77,7 @@ module _ (c : tie.Else1) where
   row = vertex-row w h (n - 1) wide (omega (arith, above, start .pre .1))
 
   taken : pointRefusal net w h p q ≡ 0
-  taken = vertex-taken net w h (start .pre .0) i j column row
+  taken = vertex-accepted net w h (start .pre .0) i j column row
 
 -- its line, with the numbers as they are handed on
 module _ (c : tie.After-struct-told3) where
@@ -90,12 +90,12 @@ module _ (c : tie.After-struct-told3) where
   abbrev point : Point
   point = matched .answer .given .0 .0
 
-  told : (point .x ≡ coordinate (net e) (w e) (h e) (p e) (q e) 0)
+  outcome : (point .x ≡ coordinate (net e) (w e) (h e) (p e) (q e) 0)
       × (point .y ≡ coordinate (net e) (w e) (h e) (p e) (q e) 1)
       × (point .z ≡ coordinate (net e) (w e) (h e) (p e) (q e) 2)
-  told =
-      point-told (net e) (w e) (h e) (p e) (q e) (taken e)
-      (sym (ap pointTold (matched .answer .given .1)) ∙ matched .before .before .surface-point .ensures)
+  outcome =
+      point-outcome (net e) (w e) (h e) (p e) (q e) (taken e)
+      (sym (ap pointOutcome (matched .answer .given .1)) ∙ matched .before .before .surface-point .ensures)
 
   abbrev held : ℤ → ℤ
   held z = toZ w32 (ofZ w32 z)
@@ -106,9 +106,9 @@ module _ (c : tie.After-struct-told3) where
   line-is : line ≡ pieceText (net e) (w e) (h e) (n e)
   line-is =
       let fits = c .struct-told3 .given in
-      let x = reads-as w32 (point .x) (fits .0 .1) (told .0) in
-      let y = reads-as w32 (point .y) (fits .1 .0 .1) (told .1) in
-      let z = reads-as w32 (point .z) (fits .1 .1 .0 .1) (told .2) in
+      let x = reads-as w32 (point .x) (fits .0 .1) (outcome .0) in
+      let y = reads-as w32 (point .y) (fits .1 .0 .1) (outcome .1) in
+      let z = reads-as w32 (point .z) (fits .1 .1 .0 .1) (outcome .2) in
       (λ t. pointLine (i e) (j e) (x t) (y t) (z t)) ∙ vertex-piece (net e) (w e) (h e) (n e) (above e)
 
   -- an i32 has at most ten digits
@@ -184,7 +184,7 @@ returns-3 c =
     let e = asked .before in
     absurd
     (not-refused (net e) (w e) (h e) (p e) (q e) (taken e)
-    (sym (ap pointTold (c .enum-told .given .1)) ∙ asked .surface-point .ensures))
+    (sym (ap pointOutcome (c .enum-told .given .1)) ∙ asked .surface-point .ensures))
 
 pub list-piece-spec : {M : Type 1} → statement M
 list-piece-spec =

@@ -10,7 +10,7 @@ use mir.Facts.{toZ-ofZ}
 use mir.Syntax.{w32}
 use mir.Val.{toZ, ofZ}
 use borrow.Author.Needs.{needs, sfits-of}
-use Rattle.net.specs.TurnedAway.{beyond, anyBeyond}
+use Rattle.net.specs.Refusals.{beyond, anyBeyond}
 use Rattle.net.proofs.Faults.{or-yes, or-no}
 use Rattle.net.proofs.Ranges.{any-from}
 use Rattle.net.proofs.storage.any_beyond.Statement.{statement}

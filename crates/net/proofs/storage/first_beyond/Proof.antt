@@ -8,7 +8,7 @@ use lib.ListN.{take, drop}
 use lib.IntN.{ℤ}
 use borrow.Author.Needs.{needs}
 use Rattle.net.specs.Net.{stride}
-use Rattle.net.specs.TurnedAway.{anyBeyond}
+use Rattle.net.specs.Refusals.{anyBeyond}
 use Rattle.net.proofs.Faults.{or-no}
 use Rattle.net.proofs.Ranges.{any-front, any-longer}
 use Rattle.net.proofs.storage.first_beyond.Statement.{statement}
@@ -20,7 +20,7 @@ Inv-loop net n i₀ i = (i ≤ n) × (anyBeyond (take (stride * i) net) ≡ fals
 abbrev μ-loop : tie.MeasureT-loop
 μ-loop net n i₀ i = n - i
 
--- what was told of the numbers of vertex i is told of all up to them
+-- what is known of the numbers of vertex i is known of all up to them
 module _ (c : tie.After-any-beyond Inv-loop μ-loop) where
   abbrev net : List ℤ
   net = c .before .before .before .before .args .net .now

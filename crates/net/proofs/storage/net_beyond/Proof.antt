@@ -1,6 +1,6 @@
 -- `net::storage::net_beyond` meets its contract: the first numbers of a net are those of its vertices.
 use native.Mathlib.Omega.{arith}
-use Rattle.net.specs.TurnedAway.{netBeyond}
+use Rattle.net.specs.Refusals.{netBeyond}
 use Rattle.net.proofs.Places.{good-size, few-vertices}
 use Rattle.net.proofs.storage.net_beyond.Statement.{statement}
 use Rattle.net.proofs.storage.net_beyond.Tie as tie

@@ -5,7 +5,7 @@ use native.Mathlib.Omega.{arith}
 use lib.ListN.{take, drop}
 use borrow.Author.Needs.{needs}
 use Rattle.net.specs.Net.{vertexAt, start, stride}
-use Rattle.net.specs.TurnedAway.{anyBeyond}
+use Rattle.net.specs.Refusals.{anyBeyond}
 use Rattle.net.proofs.storage.vertex_beyond.Statement.{statement}
 use Rattle.net.proofs.storage.vertex_beyond.Tie as tie
 

@@ -7,7 +7,7 @@ use lib.IntN.{ℤ}
 use lib.ListN.{length, take, drop}
 use borrow.Author.Needs.{needs}
 use Rattle.net.specs.Net.{vertexAt, start, stride}
-use Rattle.net.specs.TurnedAway.{vertexRefusal}
+use Rattle.net.specs.Refusals.{vertexRefusal}
 use Rattle.net.proofs.Places.{good-vertex, vertex-lies, accepted-part, refused-part}
 use Rattle.net.proofs.vertices.vertex.Statement.{statement}
 use Rattle.net.proofs.vertices.vertex.Tie as tie

@@ -7,8 +7,8 @@ use Prim.Native.Nat.{ℕ}
 use lib.IntN.{ℤ}
 use lib.ListN.{length}
 use borrow.Author.Needs.{needs}
-use Rattle.writer.specs.TurnedAway.{noRoom}
-use Rattle.writer.specs.Answers.{writeTold, writeAnswerWith, writeOutputWith}
+use Rattle.writer.specs.Refusals.{noRoom}
+use Rattle.writer.specs.Answers.{writeOutcome, writeAnswerWith, writeOutputWith}
 use Rattle.netfile.proofs.CopyLaws.{short, part-there, copied, not-copied}
 use Rattle.netfile.proofs.copying.copy_through_file.Statement.{statement}
 use Rattle.netfile.proofs.copying.copy_through_file.Tie as tie
@@ -30,8 +30,8 @@ module _ (c : tie.After-write-with) where
   abbrev back : List ℤ
   back = c .before .before .before .before .args .back .now
 
-  told : writeTold (c .write-with .result) ≡ writeAnswerWith net w h (short net w h out back)
-  told = c .write-with .ensures .0 ∙ ap (λ (s : Bool). writeAnswerWith net w h (s || noRoom w h (length out))) (c .before .before .too-short-for .ensures)
+  outcome : writeOutcome (c .write-with .result) ≡ writeAnswerWith net w h (short net w h out back)
+  outcome = c .write-with .ensures .0 ∙ ap (λ (s : Bool). writeAnswerWith net w h (s || noRoom w h (length out))) (c .before .before .too-short-for .ensures)
 
   left : c .write-with .last .1 .1 .1 .1 .0 ≡ writeOutputWith net w h (short net w h out back) out
   left = c .write-with .ensures .1 ∙ ap (λ (s : Bool). writeOutputWith net w h (s || noRoom w h (length out)) out) (c .before .before .too-short-for .ensures)
@@ -54,7 +54,7 @@ part-read-start c = search needs
 part-read-end : tie.Need-part-read-end
 part-read-end c =
     let k = c .before .before .before .before .before .before in
-    let l = part-there (net k) (w k) (h k) (out k) (back k) (sym (ap writeTold (c .before .before .written .given .1)) ∙ told k) (left k) in
+    let l = part-there (net k) (w k) (h k) (out k) (back k) (sym (ap writeOutcome (c .before .before .written .given .1)) ∙ outcome k) (left k) in
     search needs
 
 read-requires : tie.Need-read-requires
@@ -73,7 +73,7 @@ returns : tie.Need-returns
 returns c =
     let k = c .before .before .before .before .before .before .before .before .before .before in
     let r =
-    copied (net k) (w k) (h k) (out k) (back k) (sym (ap writeTold (c .before .before .before .before .before .before .written .given .1)) ∙ told k) (left k)
+    copied (net k) (w k) (h k) (out k) (back k) (sym (ap writeOutcome (c .before .before .before .before .before .before .written .given .1)) ∙ outcome k) (left k)
     (c .before .read .ensures .0) (c .before .read .ensures .1) in
     (r .0, (r .1, r .2))
 
@@ -83,7 +83,7 @@ same-length-3 c = search needs
 returns-2 : tie.Need-returns-2
 returns-2 c =
     let k = c .before .before .before .before .before in
-    let r = not-copied (net k) (w k) (h k) (out k) (back k) (sym (ap writeTold (c .before .written2 .given .1)) ∙ told k) (left k) in
+    let r = not-copied (net k) (w k) (h k) (out k) (back k) (sym (ap writeOutcome (c .before .written2 .given .1)) ∙ outcome k) (left k) in
     (r .0, (r .1, r .2))
 
 pub copy-through-file-spec : {M : Type 1} → statement M

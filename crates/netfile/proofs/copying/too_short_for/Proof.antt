@@ -3,7 +3,7 @@ use mathlib.Core.Path.{_≡_, refl, sym, _∙_}
 use mathlib.Core.Bool.{false}
 use native.Mathlib.Omega.{arith}
 use borrow.Author.Needs.{needs}
-use Rattle.net.specs.TurnedAway.{badSize}
+use Rattle.net.specs.Refusals.{badSize}
 use Rattle.net.proofs.Places.{good-size, few-vertices}
 use Rattle.net.proofs.Faults.{cond-true, cond-false}
 use Rattle.netfile.proofs.copying.too_short_for.Statement.{statement}

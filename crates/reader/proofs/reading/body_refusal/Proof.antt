@@ -6,10 +6,10 @@ use native.Mathlib.Omega.{arith}
 use lib.ListN.{length}
 use borrow.Author.Needs.{needs}
 use Rattle.exact.specs.Filling.{runs}
-use Rattle.net.specs.TurnedAway.{firstFault}
+use Rattle.net.specs.Refusals.{firstFault}
 use Rattle.net.proofs.Faults.{Clear, fault-after}
 use Rattle.words.specs.NetFile.{fromPoint, headSize, pointSize}
-use Rattle.reader.specs.TurnedAway.{pointFaults, endFaults}
+use Rattle.reader.specs.Refusals.{pointFaults, endFaults}
 use Rattle.reader.proofs.Parsing.{refuses, passes, part-from}
 use Rattle.reader.proofs.ReadLaws.{points-there, points-numbered}
 use Rattle.reader.proofs.reading.body_refusal.Statement.{statement}

@@ -7,28 +7,28 @@ use lib.Dec.{ltb, eqb}
 use lib.ListN.{length}
 use borrow.Author.Needs.{needs}
 use borrow.Author.Tests.{lt-ltb, le-ltb, eq-eqb, ne-eqb}
-use Rattle.net.specs.TurnedAway.{Fault}
+use Rattle.net.specs.Refusals.{Fault}
 use Rattle.net.proofs.Faults.{Clear, cond-true, cond-false, fault-after}
-use Rattle.words.specs.NetFile.{payloadOf, firstWord, endKind}
-use Rattle.words.specs.TurnedAway.{wordFaults}
-use Rattle.words.specs.Answers.{wordTold}
+use Rattle.words.specs.NetFile.{wordPayload, firstWord, endKind}
+use Rattle.words.specs.Refusals.{wordFaults}
+use Rattle.words.specs.Answers.{wordOutcome}
 use Rattle.reader.proofs.Parsing.{parsed, refused, word-numbered}
 use Rattle.reader.proofs.reading.end_refusal.Statement.{statement}
 use Rattle.reader.proofs.reading.end_refusal.Tie as tie
 
 -- what is looked for in a word of the end's kind
 abbrev atEnd : List ℕ → List Fault
-atEnd left = (not (eqb (payloadOf (firstWord left)) 0), 8) ∷ (ltb 4 (length left), 9) ∷ []
+atEnd left = (not (eqb (wordPayload (firstWord left)) 0), 8) ∷ (ltb 4 (length left), 9) ∷ []
 
 -- the word was there, of its kind
 module _ (c : tie.After-known-told) where
   abbrev left : List ℕ
   left = c .before .before .before .before .before .args .left .now
 
-  found : Clear (wordFaults left endKind) × (c .before .parsed .given .0 .0 ≡ payloadOf (firstWord left))
+  found : Clear (wordFaults left endKind) × (c .before .parsed .given .0 .0 ≡ wordPayload (firstWord left))
   found =
-      parsed (wordFaults left endKind) (payloadOf (firstWord left)) (word-numbered left endKind)
-      (sym (ap wordTold (c .before .parsed .given .1)) ∙ c .before .before .before .parse-word .ensures)
+      parsed (wordFaults left endKind) (wordPayload (firstWord left)) (word-numbered left endKind)
+      (sym (ap wordOutcome (c .before .parsed .given .1)) ∙ c .before .before .before .parse-word .ensures)
 
 parse-word-requires : tie.Need-parse-word-requires
 parse-word-requires c κs = search needs
@@ -39,14 +39,14 @@ enum-known-parsed c = search needs
 returns : tie.Need-returns
 returns c =
     let w = c .before in
-    let other : eqb (payloadOf (firstWord (left w))) 0 ≡ false = ne-eqb _ _ (λ e. c .if1 .taken (found w .1 ∙ e)) in
-    cond-true (not (eqb (payloadOf (firstWord (left w))) 0)) 8 _ (ap not other) ∙ fault-after (wordFaults (left w) endKind) (atEnd (left w)) (found w .0)
+    let other : eqb (wordPayload (firstWord (left w))) 0 ≡ false = ne-eqb _ _ (λ e. c .if1 .taken (found w .1 ∙ e)) in
+    cond-true (not (eqb (wordPayload (firstWord (left w))) 0)) 8 _ (ap not other) ∙ fault-after (wordFaults (left w) endKind) (atEnd (left w)) (found w .0)
 
 returns-2 : tie.Need-returns-2
 returns-2 c =
     let w = c .before .before in
-    let zero : eqb (payloadOf (firstWord (left w))) 0 ≡ true = eq-eqb _ _ (sym (found w .1) ∙ c .before .if1 .left) in
-    cond-false (not (eqb (payloadOf (firstWord (left w))) 0)) 8 _ (ap not zero) (cond-true (ltb 4 (length (left w))) 9 0 (lt-ltb _ _ (c .if2 .taken)))
+    let zero : eqb (wordPayload (firstWord (left w))) 0 ≡ true = eq-eqb _ _ (sym (found w .1) ∙ c .before .if1 .left) in
+    cond-false (not (eqb (wordPayload (firstWord (left w))) 0)) 8 _ (ap not zero) (cond-true (ltb 4 (length (left w))) 9 0 (lt-ltb _ _ (c .if2 .taken)))
     ∙ fault-after (wordFaults (left w) endKind) (atEnd (left w)) (found w .0)
 
 enum-known-parsed-2 : tie.Need-enum-known-parsed-2
@@ -55,15 +55,15 @@ enum-known-parsed-2 c = search needs
 returns-3 : tie.Need-returns-3
 returns-3 c =
     let w = c .before .before in
-    let zero : eqb (payloadOf (firstWord (left w))) 0 ≡ true = eq-eqb _ _ (sym (found w .1) ∙ c .before .if1 .left) in
-    cond-false (not (eqb (payloadOf (firstWord (left w))) 0)) 8 _ (ap not zero) (cond-false (ltb 4 (length (left w))) 9 0 (le-ltb _ _ (c .if2 .left)) refl)
+    let zero : eqb (wordPayload (firstWord (left w))) 0 ≡ true = eq-eqb _ _ (sym (found w .1) ∙ c .before .if1 .left) in
+    cond-false (not (eqb (wordPayload (firstWord (left w))) 0)) 8 _ (ap not zero) (cond-false (ltb 4 (length (left w))) 9 0 (le-ltb _ _ (c .if2 .left)) refl)
     ∙ fault-after (wordFaults (left w) endKind) (atEnd (left w)) (found w .0)
 
 returns-4 : tie.Need-returns-4
 returns-4 c =
     let left = c .before .before .before .before .before .args .left .now in
-    let e = sym (ap wordTold (c .before .parsed2 .given .1)) ∙ c .before .before .before .parse-word .ensures in
-    refused (wordFaults left endKind) (atEnd left) (payloadOf (firstWord left)) [] e .0
+    let e = sym (ap wordOutcome (c .before .parsed2 .given .1)) ∙ c .before .before .before .parse-word .ensures in
+    refused (wordFaults left endKind) (atEnd left) (wordPayload (firstWord left)) [] e .0
 
 pub end-refusal-spec : {M : Type 1} → statement M
 end-refusal-spec =

@@ -1,4 +1,4 @@
--- `reader::reading::load_points` meets its contract: each turn stores one control point more.
+-- `reader::reading::load_points` meets its contract: each iteration stores one control point more.
 use mathlib.Core.Path.{_≡_, refl, ap, _∙_}
 use Prim.Native.Nat.{ℕ, _+_, _-_, _*_, _≤_}
 use native.Mathlib.Omega.{arith}

@@ -7,11 +7,11 @@ use mir.Syntax.{w32}
 use mir.Val.{toZ, ofZ}
 use borrow.Author.Needs.{needs}
 use Rattle.exact.proofs.SignedCode.{reads-as}
-use Rattle.net.specs.TurnedAway.{beyond}
+use Rattle.net.specs.Refusals.{beyond}
 use Rattle.net.proofs.Faults.{Clear, cond-true, cond-false, fault-after}
-use Rattle.words.specs.NetFile.{payloadOf, signed, firstWord, firstNumber}
-use Rattle.words.specs.TurnedAway.{wordFaults}
-use Rattle.words.specs.Answers.{wordTold}
+use Rattle.words.specs.NetFile.{wordPayload, signed, firstWord, firstNumber}
+use Rattle.words.specs.Refusals.{wordFaults}
+use Rattle.words.specs.Answers.{wordOutcome}
 use Rattle.words.proofs.WordLaws.{payload-small}
 use Rattle.reader.proofs.Parsing.{parsed, refused, word-numbered}
 use Rattle.reader.proofs.reading.number_refusal.Statement.{statement}
@@ -25,10 +25,10 @@ module _ (c : tie.After-known-told) where
   abbrev kind : ℕ
   kind = c .before .before .before .before .before .args .kind
 
-  found : Clear (wordFaults left kind) × (c .before .parsed .given .0 .0 ≡ payloadOf (firstWord left))
+  found : Clear (wordFaults left kind) × (c .before .parsed .given .0 .0 ≡ wordPayload (firstWord left))
   found =
-      parsed (wordFaults left kind) (payloadOf (firstWord left)) (word-numbered left kind)
-      (sym (ap wordTold (c .before .parsed .given .1)) ∙ c .before .before .before .parse-word .ensures)
+      parsed (wordFaults left kind) (wordPayload (firstWord left)) (word-numbered left kind)
+      (sym (ap wordOutcome (c .before .parsed .given .1)) ∙ c .before .before .before .parse-word .ensures)
 
 -- its number
 module _ (c : tie.After-signed-number) where
@@ -69,8 +69,8 @@ returns-3 : tie.Need-returns-3
 returns-3 c =
     let left = c .before .before .before .before .before .args .left .now in
     let kind = c .before .before .before .before .before .args .kind in
-    let e = sym (ap wordTold (c .before .parsed2 .given .1)) ∙ c .before .before .before .parse-word .ensures in
-    refused (wordFaults left kind) ((beyond (firstNumber left), 3) ∷ []) (payloadOf (firstWord left)) [] e .0
+    let e = sym (ap wordOutcome (c .before .parsed2 .given .1)) ∙ c .before .before .before .parse-word .ensures in
+    refused (wordFaults left kind) ((beyond (firstNumber left), 3) ∷ []) (wordPayload (firstWord left)) [] e .0
 
 pub number-refusal-spec : {M : Type 1} → statement M
 number-refusal-spec =

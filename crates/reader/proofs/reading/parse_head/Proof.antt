@@ -7,21 +7,21 @@ use lib.Dec.{ltb}
 use lib.ListN.{length, take, drop}
 use borrow.Author.Needs.{needs}
 use borrow.Author.Tests.{ltb-false}
-use Rattle.net.specs.TurnedAway.{firstFault, badSide}
+use Rattle.net.specs.Refusals.{firstFault, badSide}
 use Rattle.net.specs.Net.{numbers}
 use Rattle.net.proofs.Faults.{Clear, fault-after, refused-answer, or-no}
-use Rattle.words.specs.NetFile.{payloadOf, firstWord, widthKind, heightKind, fileWidth, fileHeight}
-use Rattle.words.specs.Answers.{answer, wordTold}
-use Rattle.reader.specs.TurnedAway.{sideFaults, headFaults, shortFor}
+use Rattle.words.specs.NetFile.{wordPayload, firstWord, widthKind, heightKind, fileWidth, fileHeight}
+use Rattle.words.specs.Answers.{answer, wordOutcome}
+use Rattle.reader.specs.Refusals.{sideFaults, headFaults, shortFor}
 use Rattle.reader.proofs.Parsing.{parsed, refused, side-numbered, part-from}
 use Rattle.reader.proofs.reading.parse_head.Statement.{statement}
 use Rattle.reader.proofs.reading.parse_head.Tie as tie
 
--- what was told of the part from the second word on
-told : (l : List ℕ) {r : ℕ × List ℕ} →
-    r ≡ answer (firstFault (sideFaults (take (length l - 4) (drop 4 l)) heightKind)) (payloadOf (firstWord (take (length l - 4) (drop 4 l))) ∷ []) →
+-- what is known of the part from the second word on
+outcome : (l : List ℕ) {r : ℕ × List ℕ} →
+    r ≡ answer (firstFault (sideFaults (take (length l - 4) (drop 4 l)) heightKind)) (wordPayload (firstWord (take (length l - 4) (drop 4 l))) ∷ []) →
     r ≡ answer (firstFault (sideFaults (drop 4 l) heightKind)) (fileHeight l ∷ [])
-told l e = e ∙ ap (λ (m : List ℕ). answer (firstFault (sideFaults m heightKind)) (payloadOf (firstWord m) ∷ [])) (part-from l 4)
+outcome l e = e ∙ ap (λ (m : List ℕ). answer (firstFault (sideFaults m heightKind)) (wordPayload (firstWord m) ∷ [])) (part-from l 4)
 
 -- the width was found
 module _ (c : tie.After-known-told) where
@@ -31,7 +31,7 @@ module _ (c : tie.After-known-told) where
   width : Clear (sideFaults file widthKind) × (c .before .width .given .0 .0 ≡ fileWidth file)
   width =
       parsed (sideFaults file widthKind) (fileWidth file) (side-numbered file widthKind)
-      (sym (ap wordTold (c .before .width .given .1)) ∙ c .before .before .before .parse-side .ensures)
+      (sym (ap wordOutcome (c .before .width .given .1)) ∙ c .before .before .before .parse-side .ensures)
 
   width-there : 4 ≤ length file
   width-there = ltb-false (length file) 4 (width .0 .0)
@@ -44,7 +44,7 @@ module _ (c : tie.After-known-told2) where
   height : Clear (sideFaults (drop 4 (file at)) heightKind) × (c .before .height .given .0 .0 ≡ fileHeight (file at))
   height =
       parsed (sideFaults (drop 4 (file at)) heightKind) (fileHeight (file at)) (side-numbered (drop 4 (file at)) heightKind)
-      (sym (ap wordTold (c .before .height .given .1)) ∙ told (file at) (c .before .before .before .parse-side2 .ensures))
+      (sym (ap wordOutcome (c .before .height .given .1)) ∙ outcome (file at) (c .before .before .before .parse-side2 .ensures))
 
 parse-side-requires : tie.Need-parse-side-requires
 parse-side-requires c κs = search needs
@@ -107,7 +107,7 @@ returns-2 c =
     let room = k .before .before .before .before .before .args .room in
     let other = k .before .before .before .before .before .args .short in
     let l = file k in
-    let e = sym (ap wordTold (c .before .height2 .given .1)) ∙ told l (c .before .before .before .parse-side2 .ensures) in
+    let e = sym (ap wordOutcome (c .before .height2 .given .1)) ∙ outcome l (c .before .before .before .parse-side2 .ensures) in
     let q = refused (sideFaults (drop 4 l) heightKind) ((other || shortFor l room, 5) ∷ []) (fileHeight l) [] e in
     refused-answer (firstFault (headFaults l (other || shortFor l room))) (fileWidth l ∷ fileHeight l ∷ [])
     (q .0 ∙ fault-after (sideFaults l widthKind) (sideFaults (drop 4 l) heightKind ++ (other || shortFor l room, 5) ∷ []) (w .0)) (q .1)
@@ -117,7 +117,7 @@ returns-3 c =
     let l = c .before .before .before .before .before .args .file .now in
     let room = c .before .before .before .before .before .args .room in
     let other = c .before .before .before .before .before .args .short in
-    let e = sym (ap wordTold (c .before .width2 .given .1)) ∙ c .before .before .before .parse-side .ensures in
+    let e = sym (ap wordOutcome (c .before .width2 .given .1)) ∙ c .before .before .before .parse-side .ensures in
     let q = refused (sideFaults l widthKind) (sideFaults (drop 4 l) heightKind ++ (other || shortFor l room, 5) ∷ []) (fileWidth l) [] e in
     refused-answer (firstFault (headFaults l (other || shortFor l room))) (fileWidth l ∷ fileHeight l ∷ []) (q .0) (q .1)
 

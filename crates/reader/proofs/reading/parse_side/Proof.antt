@@ -5,12 +5,12 @@ use mathlib.Core.List.{List, [], _∷_}
 use Prim.Native.Nat.{ℕ}
 use native.Mathlib.Omega.{arith}
 use borrow.Author.Needs.{needs}
-use Rattle.net.specs.TurnedAway.{firstFault, badSide}
+use Rattle.net.specs.Refusals.{firstFault, badSide}
 use Rattle.net.proofs.Faults.{Clear, cond-true, cond-false, fault-after, accepted-answer, refused-answer}
-use Rattle.words.specs.NetFile.{payloadOf, firstWord}
-use Rattle.words.specs.TurnedAway.{wordFaults}
-use Rattle.words.specs.Answers.{wordTold}
-use Rattle.reader.specs.TurnedAway.{sideFaults}
+use Rattle.words.specs.NetFile.{wordPayload, firstWord}
+use Rattle.words.specs.Refusals.{wordFaults}
+use Rattle.words.specs.Answers.{wordOutcome}
+use Rattle.reader.specs.Refusals.{sideFaults}
 use Rattle.reader.proofs.Parsing.{parsed, refused, word-numbered}
 use Rattle.reader.proofs.reading.parse_side.Statement.{statement}
 use Rattle.reader.proofs.reading.parse_side.Tie as tie
@@ -24,10 +24,10 @@ module _ (c : tie.After-parsed) where
   kind = c .before .before .before .before .args .kind
 
   abbrev payload : ℕ
-  payload = payloadOf (firstWord left)
+  payload = wordPayload (firstWord left)
 
   found : Clear (wordFaults left kind) × (c .parsed .given .0 .0 ≡ payload)
-  found = parsed (wordFaults left kind) payload (word-numbered left kind) (sym (ap wordTold (c .parsed .given .1)) ∙ c .before .before .parse-word .ensures)
+  found = parsed (wordFaults left kind) payload (word-numbered left kind) (sym (ap wordOutcome (c .parsed .given .1)) ∙ c .before .before .parse-word .ensures)
 
 parse-word-requires : tie.Need-parse-word-requires
 parse-word-requires c κs = search needs
@@ -66,8 +66,8 @@ returns-3 : tie.Need-returns-3
 returns-3 c =
     let left = c .before .before .before .before .before .args .left .now in
     let kind = c .before .before .before .before .before .args .kind in
-    let v = payloadOf (firstWord left) in
-    let e = sym (ap wordTold (c .before .parsed2 .given .1)) ∙ c .before .before .before .parse-word .ensures in
+    let v = wordPayload (firstWord left) in
+    let e = sym (ap wordOutcome (c .before .parsed2 .given .1)) ∙ c .before .before .before .parse-word .ensures in
     let q = refused (wordFaults left kind) ((badSide v, 1) ∷ []) v [] e in
     refused-answer (firstFault (sideFaults left kind)) (v ∷ []) (q .0) (q .1)
 

@@ -6,10 +6,10 @@ use native.Mathlib.Omega.{arith}
 use lib.ListN.{length, take, drop, length-drop}
 use borrow.Author.Needs.{needs}
 use borrow.Author.Tests.{ltb-false}
-use Rattle.net.specs.TurnedAway.{Fault, firstFault}
+use Rattle.net.specs.Refusals.{Fault, firstFault}
 use Rattle.net.proofs.Faults.{Clear, fault-after}
 use Rattle.words.specs.NetFile.{xKind, yKind, zKind}
-use Rattle.reader.specs.TurnedAway.{numberFaults}
+use Rattle.reader.specs.Refusals.{numberFaults}
 use Rattle.reader.proofs.Parsing.{refuses, passes, number-numbered, part-from}
 use Rattle.reader.proofs.reading.point_refusal.Statement.{statement}
 use Rattle.reader.proofs.reading.point_refusal.Tie as tie
@@ -18,9 +18,9 @@ use Rattle.reader.proofs.reading.point_refusal.Tie as tie
 abbrev afterX : List ℕ → List Fault
 afterX left = numberFaults (drop 4 left) yKind ++ numberFaults (drop 8 left) zKind
 
--- what was told of a part of the slice
-told : (left : List ℕ) (n kind : ℕ) {r : ℕ} → r ≡ firstFault (numberFaults (take (length left - n) (drop n left)) kind) → r ≡ firstFault (numberFaults (drop n left) kind)
-told left n kind e = e ∙ ap (λ (l : List ℕ). firstFault (numberFaults l kind)) (part-from left n)
+-- what is known of a part of the slice
+outcome : (left : List ℕ) (n kind : ℕ) {r : ℕ} → r ≡ firstFault (numberFaults (take (length left - n) (drop n left)) kind) → r ≡ firstFault (numberFaults (drop n left) kind)
+outcome left n kind e = e ∙ ap (λ (l : List ℕ). firstFault (numberFaults l kind)) (part-from left n)
 
 module _ (c : tie.Else1) where
   abbrev left : List ℕ
@@ -39,7 +39,7 @@ module _ (c : tie.Else2) where
   y-clear : Clear (numberFaults (drop 4 (left before-y)) yKind)
   y-clear =
       passes (numberFaults (drop 4 (left before-y)) yKind) (number-numbered (drop 4 (left before-y)) yKind)
-      (told (left before-y) 4 yKind (c .before .number-refusal2 .ensures)) (c .if2 .left)
+      (outcome (left before-y) 4 yKind (c .before .number-refusal2 .ensures)) (c .if2 .left)
 
   y-there : 8 ≤ length (left before-y)
   y-there = omega (arith, ltb-false (length (drop 4 (left before-y))) 4 (y-clear .0), length-drop 4 (left before-y))
@@ -67,7 +67,7 @@ number-refusal-requires-2 c κs = search needs
 returns-2 : tie.Need-returns-2
 returns-2 c =
     let at = c .before .before .before in
-    let e = told (left at) 4 yKind (c .before .number-refusal2 .ensures) in
+    let e = outcome (left at) 4 yKind (c .before .number-refusal2 .ensures) in
     refuses (numberFaults (drop 4 (left at)) yKind) (numberFaults (drop 8 (left at)) zKind) e (c .if2 .taken) ∙ fault-after (numberFaults (left at) xKind) (afterX (left at)) (x-clear at)
 
 sub-number-refusal-2 : tie.Need-sub-number-refusal-2
@@ -86,7 +86,7 @@ returns-3 : tie.Need-returns-3
 returns-3 c =
     let y = c .before .before in
     let at = y .before .before .before in
-    told (left at) 8 zKind (c .number-refusal3 .ensures)
+    outcome (left at) 8 zKind (c .number-refusal3 .ensures)
     ∙ fault-after (numberFaults (drop 4 (left at)) yKind) (numberFaults (drop 8 (left at)) zKind) (y-clear y)
     ∙ fault-after (numberFaults (left at) xKind) (afterX (left at)) (x-clear at)
 

@@ -6,10 +6,10 @@ use native.Mathlib.Omega.{arith}
 use lib.ListN.{length, length-drop}
 use borrow.Author.Needs.{needs}
 use Rattle.exact.specs.Filling.{runs}
-use Rattle.net.specs.TurnedAway.{Fault, firstFault}
+use Rattle.net.specs.Refusals.{Fault, firstFault}
 use Rattle.net.proofs.Faults.{fault-in-front, fault-in-runs}
 use Rattle.words.specs.NetFile.{fromPoint, headSize, pointSize}
-use Rattle.reader.specs.TurnedAway.{pointFaults}
+use Rattle.reader.specs.Refusals.{pointFaults}
 use Rattle.reader.proofs.Parsing.{passes, point-numbered, point-long, part-from}
 use Rattle.reader.proofs.ReadLaws.{points-numbered}
 use Rattle.reader.proofs.reading.points_refusal.Statement.{statement}
@@ -37,12 +37,12 @@ module _ (c : tie.After-point-refusal) where
   abbrev at : tie.After-whole-points-refusal
   at = c .before .before .before .before
 
-  told : c .point-refusal .result ≡ firstFault (faults at (whole at))
-  told = c .point-refusal .ensures ∙ ap (λ (l : List ℕ). firstFault (pointFaults l)) (part-from (file at) (headSize + pointSize * whole at))
+  outcome : c .point-refusal .result ≡ firstFault (faults at (whole at))
+  outcome = c .point-refusal .ensures ∙ ap (λ (l : List ℕ). firstFault (pointFaults l)) (part-from (file at) (headSize + pointSize * whole at))
 
   refused : c .point-refusal .result ≡ 0 → ⊥
   refused z =
-      let k = passes (faults at (whole at)) (point-numbered (fromPoint (file at) (whole at))) told z in
+      let k = passes (faults at (whole at)) (point-numbered (fromPoint (file at) (whole at))) outcome z in
       let last : whole at < n at = c .before .before .if2 .taken in
       omega (arith, fewer at, last, point-long (fromPoint (file at) (whole at)) k, length-drop (headSize + pointSize * whole at) (file at))
 
@@ -83,7 +83,7 @@ returns-2 c =
     let k = at c in
     fault-in-runs (n k) (faults k) (whole k) (c .before .before .if2 .taken)
     (passes (runs (whole k) (faults k)) (points-numbered (file k) (whole k)) (k .whole-points-refusal .ensures) (c .before .before .before .if1 .left))
-    (told c) (refused c)
+    (outcome c) (refused c)
 
 returns-3 : tie.Need-returns-3
 returns-3 c =

@@ -8,17 +8,17 @@ use lib.ListN.{length, getD}
 use lib.IntN.{ℤ}
 use borrow.Author.Needs.{needs}
 use Rattle.exact.specs.Filling.{runs, over}
-use Rattle.net.specs.TurnedAway.{firstFault}
+use Rattle.net.specs.Refusals.{firstFault}
 use Rattle.net.proofs.Places.{good-size, few-vertices}
 use Rattle.net.proofs.Faults.{Clear, none-clear, clear-parts}
 use Rattle.words.specs.NetFile.{firstPoint, fromPoint, fileWidth, fileHeight, points, headSize, pointSize}
-use Rattle.reader.specs.TurnedAway.{pointFaults, endFaults, headFaults, bodyFaults, shortFor}
-use Rattle.reader.specs.Answers.{readTold}
+use Rattle.reader.specs.Refusals.{pointFaults, endFaults, headFaults, bodyFaults, shortFor}
+use Rattle.reader.specs.Answers.{readOutcome}
 use Rattle.reader.proofs.ReadLaws.{GoodHead, good-head, points-there, body-numbered, head-found, head-refused, body-refused, taken}
 use Rattle.reader.proofs.reading.read_with.Statement.{statement}
 use Rattle.reader.proofs.reading.read_with.Tie as tie
 
--- the first two words were taken
+-- the first two words were accepted
 module _ (c : tie.After-known-told) where
   abbrev file : List ℕ
   file = c .before .before .before .before .before .args .file .now
@@ -39,7 +39,7 @@ module _ (c : tie.After-known-told) where
   h = c .before .head .given .0 .1 .0
 
   found : Clear (headFaults file short) × (_≡_ {A = List ℕ} (w ∷ h ∷ []) (fileWidth file ∷ fileHeight file ∷ []))
-  found = head-found file short net (sym (ap readTold (c .before .head .given .1)) ∙ c .before .before .before .parse-head .ensures)
+  found = head-found file short net (sym (ap readOutcome (c .before .head .given .1)) ∙ c .before .before .before .parse-head .ensures)
 
   good : GoodHead file (length net)
   good = good-head file other (length net) (found .0)
@@ -113,7 +113,7 @@ returns-3 c =
     let net = c .before .before .before .before .before .args .net .now in
     let other = c .before .before .before .before .before .args .short in
     head-refused file (other || shortFor file (length net)) net
-    (sym (ap readTold (c .before .head2 .given .1)) ∙ c .before .before .before .parse-head .ensures)
+    (sym (ap readOutcome (c .before .head2 .given .1)) ∙ c .before .before .before .parse-head .ensures)
 
 pub read-with-spec : {M : Type 1} → statement M
 read-with-spec =

@@ -7,10 +7,10 @@ use lib.ListN.{length, take, drop, length-drop}
 use borrow.Author.Needs.{needs}
 use Rattle.exact.specs.Filling.{runs}
 use Rattle.exact.proofs.FillingLaws.{runs-suc}
-use Rattle.net.specs.TurnedAway.{Fault, firstFault}
+use Rattle.net.specs.Refusals.{Fault, firstFault}
 use Rattle.net.proofs.Faults.{Clear, clear-none, clear-append, fault-in-runs}
 use Rattle.words.specs.NetFile.{fromPoint, headSize, pointSize}
-use Rattle.reader.specs.TurnedAway.{pointFaults}
+use Rattle.reader.specs.Refusals.{pointFaults}
 use Rattle.reader.proofs.Parsing.{passes, point-numbered, point-within}
 use Rattle.reader.proofs.reading.whole_points_refusal.Statement.{statement}
 use Rattle.reader.proofs.reading.whole_points_refusal.Tie as tie
@@ -21,7 +21,7 @@ Inv-loop file n i₀ i = (i ≤ n) × Clear (runs i (λ j. pointFaults (fromPoin
 abbrev μ-loop : tie.MeasureT-loop
 μ-loop file n i₀ i = n - i
 
--- what was told of the control point at i
+-- what is known of the control point at i
 module _ (c : tie.After-point-refusal Inv-loop μ-loop) where
   abbrev file : List ℕ
   file = c .before .before .before .before .before .args .file .now

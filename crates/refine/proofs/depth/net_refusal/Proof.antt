@@ -4,9 +4,9 @@ use mathlib.Core.Bool.{Bool, false, cond, _||_}
 use Prim.Native.Nat.{ℕ}
 use borrow.Author.Needs.{needs}
 use borrow.Author.Tests.{ltb-false}
-use Rattle.net.specs.TurnedAway.{firstFault, shortNet, netBeyond}
+use Rattle.net.specs.Refusals.{firstFault, shortNet, netBeyond}
 use Rattle.net.proofs.Faults.{or-yes, or-no, cond-true, cond-false}
-use Rattle.refine.specs.TurnedAway.{tooShort, netFaults}
+use Rattle.refine.specs.Refusals.{tooShort, netFaults}
 use Rattle.refine.proofs.depth.net_refusal.Statement.{statement}
 use Rattle.refine.proofs.depth.net_refusal.Tie as tie
 
@@ -15,7 +15,7 @@ module _ (c : tie.Else1) where
   start = c .before .before
 
   abbrev short : Bool
-  short = start .args .short || tooShort (start .args .w) (start .args .h) (start .args .k) (start .args .room) (start .args .spare)
+  short = start .args .short || tooShort (start .args .w) (start .args .h) (start .args .k) (start .args .room) (start .args .scratch)
 
   long : shortNet (start .args .net .now) (start .args .w) (start .args .h) ≡ false
   long = sym (c .before .short-net .ensures) ∙ c .if1 .left

@@ -8,7 +8,7 @@ use borrow.Author.Needs.{needs}
 use borrow.Author.Tests.{ltb-false}
 use Rattle.steps.specs.RefinedNet.{refinedNet}
 use Rattle.refine.specs.Answers.{refusalOf}
-use Rattle.refine.proofs.Taken.{Taken, refine-taken}
+use Rattle.refine.proofs.Refinable.{Refinable, refine-accepted}
 use Rattle.refine.proofs.CallLaws.{left-accepted, left-refused, carried-out, not-carried-out}
 use Rattle.refine.proofs.refining.refine.Statement.{statement}
 use Rattle.refine.proofs.refining.refine.Tie as tie
@@ -24,10 +24,10 @@ module _ (c : tie.Then1) where
   none : refusal (c .before .before) ≡ 0
   none = sym (c .before .refusal-of .ensures) ∙ c .if1 .taken
 
-  taken : (let s = c .before .before in Taken (s .args .net .now) (s .args .w) (s .args .h) (s .args .k) (length (s .args .out .now)) (length (s .args .scratch .now)))
+  taken : (let s = c .before .before in Refinable (s .args .net .now) (s .args .w) (s .args .h) (s .args .k) (length (s .args .out .now)) (length (s .args .scratch .now)))
   taken =
       let s = c .before .before in
-      refine-taken (s .args .net .now) (s .args .w) (s .args .h) (s .args .k) (length (s .args .out .now)) (length (s .args .scratch .now)) none
+      refine-accepted (s .args .net .now) (s .args .w) (s .args .h) (s .args .k) (length (s .args .out .now)) (length (s .args .scratch .now)) none
 
 refusal-of-requires : tie.Need-refusal-of-requires
 refusal-of-requires c κs = search needs

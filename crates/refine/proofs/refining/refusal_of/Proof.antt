@@ -3,15 +3,15 @@ use mathlib.Core.Path.{sym, _∙_}
 use mathlib.Core.List.{List}
 use lib.Dec.{lit<}
 use borrow.Author.Needs.{needs}
-use Rattle.net.specs.TurnedAway.{Fault}
+use Rattle.net.specs.Refusals.{Fault}
 use Rattle.net.proofs.Faults.{Clear, none-clear, fault-before, fault-after}
-use Rattle.refine.specs.TurnedAway.{tooShort, sizeFaults, netFaults}
+use Rattle.refine.specs.Refusals.{tooShort, sizeFaults, netFaults}
 use Rattle.refine.proofs.refining.refusal_of.Statement.{statement}
 use Rattle.refine.proofs.refining.refusal_of.Tie as tie
 
 -- the faults after 1 and 4
 abbrev rest : tie.Start → List Fault
-rest s = netFaults (s .args .net .now) (s .args .w) (s .args .h) (tooShort (s .args .w) (s .args .h) (s .args .k) (s .args .room) (s .args .spare))
+rest s = netFaults (s .args .net .now) (s .args .w) (s .args .h) (tooShort (s .args .w) (s .args .h) (s .args .k) (s .args .room) (s .args .scratch))
 
 -- 1 and 4 do not refuse
 clear : (c : tie.Else1) → Clear (sizeFaults (c .before .before .args .w) (c .before .before .args .h) (c .before .before .args .k))

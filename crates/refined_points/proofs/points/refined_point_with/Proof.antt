@@ -13,10 +13,10 @@ use Rattle.surface.specs.Answers.{pointAnswer}
 use Rattle.subdivision.specs.Refinement.{sideAfter}
 use Rattle.steps.specs.RefinedNet.{refinedNet}
 use Rattle.steps.proofs.Sides.{wide-ready, high-ready}
-use Rattle.refine.proofs.Taken.{Taken}
+use Rattle.refine.proofs.Refinable.{Refinable}
 use Rattle.refine.proofs.CallLaws.{left-accepted, left-refused}
 use Rattle.refined_points.specs.Answers.{refusalAt, refinedSurfacePoint}
-use Rattle.refined_points.proofs.RefinedPoints.{point-taken, point-answered, point-of-refined}
+use Rattle.refined_points.proofs.RefinedPoints.{point-accepted, point-answered, point-of-refined}
 use Rattle.refined_points.proofs.points.refined_point_with.Statement.{statement}
 use Rattle.refined_points.proofs.points.refined_point_with.Tie as tie
 
@@ -37,12 +37,12 @@ module _ (c : tie.Else1) where
 
   taken :
       (let s = c .before .before in
-      Taken (s .args .net .now) (s .args .w) (s .args .h) (s .args .k) (length (s .args .out .now)) (length (s .args .scratch .now))
+      Refinable (s .args .net .now) (s .args .w) (s .args .h) (s .args .k) (length (s .args .out .now)) (length (s .args .scratch .now))
       × OnGrid 1024 (sideAfter (s .args .k) (s .args .w)) (sideAfter (s .args .k) (s .args .h)) (s .args .p) (s .args .q)
       × (s .args .short ≡ false))
   taken =
       let s = c .before .before in
-      point-taken (s .args .net .now) (s .args .w) (s .args .h) (s .args .k) (s .args .p) (s .args .q) (s .args .short) (length (s .args .out .now)) (length (s .args .scratch .now)) none
+      point-accepted (s .args .net .now) (s .args .w) (s .args .h) (s .args .k) (s .args .p) (s .args .q) (s .args .short) (length (s .args .out .now)) (length (s .args .scratch .now)) none
 
 refusal-at-requires : tie.Need-refusal-at-requires
 refusal-at-requires c κs = search needs
@@ -83,11 +83,11 @@ returns-2 c =
     let a = s .args in
     let t = taken e in
     let steps = c .before .before .before .before .before .before .refine-steps in
-    let told =
+    let outcome =
     c .surface-point .ensures
     ∙ (λ i. pointAnswer (steps .ensures .0 i) (c .before .before .before .side-after .ensures i) (c .before .before .side-after2 .ensures i) (a .p) (a .q))
     ∙ sym (point-answered (a .net .now) (a .w) (a .h) (a .k) (a .out .now) (t .0) (a .p) (a .q) (t .1)) in (
-      told ∙ accepted-answer (refusal s) (values s) (none e) (point-of-refined (a .net .now) (a .w) (a .h) (a .k) (a .out .now) (t .0) (a .p) (a .q) (t .1)),
+      outcome ∙ accepted-answer (refusal s) (values s) (none e) (point-of-refined (a .net .now) (a .w) (a .h) (a .k) (a .out .now) (t .0) (a .p) (a .q) (t .1)),
       left-accepted (refusal s) (a .k) (a .w) (a .h) (result s) (a .out .now) (a .scratch .now) (steps .last .1 .1 .1 .1 .1 .0) (none e) (steps .ensures .0) (steps .ensures .1),
     )
 

@@ -4,10 +4,10 @@ use mathlib.Core.Bool.{_||_}
 use mathlib.Core.List.{List, _∷_}
 use lib.Dec.{lit<}
 use borrow.Author.Needs.{needs}
-use Rattle.net.specs.TurnedAway.{Fault}
+use Rattle.net.specs.Refusals.{Fault}
 use Rattle.net.proofs.Faults.{Clear, none-clear, fault-before, fault-after, cond-true, cond-false}
-use Rattle.refine.specs.TurnedAway.{tooShort, sizeFaults, netFaults}
-use Rattle.refined_points.specs.TurnedAway.{offGrid}
+use Rattle.refine.specs.Refusals.{tooShort, sizeFaults, netFaults}
+use Rattle.refined_points.specs.Refusals.{offGrid}
 use Rattle.refined_points.proofs.points.refusal_at.Statement.{statement}
 use Rattle.refined_points.proofs.points.refusal_at.Tie as tie
 
@@ -15,7 +15,7 @@ use Rattle.refined_points.proofs.points.refusal_at.Tie as tie
 abbrev rest : tie.Start → List Fault
 rest s =
     (offGrid (s .args .w) (s .args .h) (s .args .k) (s .args .p) (s .args .q), 6)
-    ∷ netFaults (s .args .net .now) (s .args .w) (s .args .h) (s .args .short || tooShort (s .args .w) (s .args .h) (s .args .k) (s .args .room) (s .args .spare))
+    ∷ netFaults (s .args .net .now) (s .args .w) (s .args .h) (s .args .short || tooShort (s .args .w) (s .args .h) (s .args .k) (s .args .room) (s .args .scratch))
 
 -- 1 and 4 do not refuse
 clear : (c : tie.Else1) → Clear (sizeFaults (c .before .before .args .w) (c .before .before .args .h) (c .before .before .args .k))

@@ -27,7 +27,7 @@ few c =
     let low : c .args .j ≤ 1025 = omega (arith, c .pre .1, c .pre .0 .0 .low) in
     mul-le-mul low (c .pre .0 .0 .narrow)
 
--- the vertex of a turn lies in the output, and its place is a small number
+-- the vertex of an iteration lies in the output, and its place is a small number
 ends : (c : tie.In-loop Inv-loop μ-loop) →
     (let s = c .before .before in
     let end = stride * (s .args .j * (2 * s .args .w - 1)) + stride * c .before .loop .i + stride in

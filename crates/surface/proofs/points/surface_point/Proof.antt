@@ -10,8 +10,8 @@ use Rattle.net.proofs.Faults.{cond-true, cond-false}
 use Rattle.net.proofs.Places.{below-three}
 use Rattle.places.specs.Located.{InOrder}
 use Rattle.places.specs.Places.{chosen, share, orderOf, cornerP, cornerQ, cornerT}
-use Rattle.triangles.specs.Corners.{InNet, cornerControls, turned, arranged}
-use Rattle.triangles.specs.TurnedAway.{triangleBeyond}
+use Rattle.triangles.specs.Corners.{InNet, cornerControls, reorderedControls, arranged}
+use Rattle.triangles.specs.Refusals.{triangleBeyond}
 use Rattle.surface.specs.Evaluation.{Evaluable, evaluated}
 use Rattle.surface.proofs.SurfacePoints.{GoodPlace, good-place, refused-place, range-refusal, refused-point, accepted-point, share-small, in-order-of, evaluable, evaluated-coordinate, in-net-place}
 use Rattle.surface.proofs.points.surface_point.Statement.{statement}
@@ -78,13 +78,13 @@ in-order c =
     let found = l .locate .ensures in
     in-order-of (shares-of (at l)) (found .share-1) (found .share-2) (found .share-3) (c .put-in-order .ensures)
 
--- the control triangles, turned and arranged
+-- the control triangles, reordered and arranged
 arranged-is : (c : tie.After-arrange) →
     (let o = c .before .before .put-in-order .result in
-    c .arrange .result ≡ arranged (o .p) (o .q) (o .t) (turned (c .before .before .before .before .before .before .locate .result .down) (c .before .before .before .load-triangle .result)))
+    c .arrange .result ≡ arranged (o .p) (o .q) (o .t) (reorderedControls (c .before .before .before .before .before .before .locate .result .down) (c .before .before .before .load-triangle .result)))
 arranged-is c =
     let o = c .before .before .put-in-order .result in
-    c .arrange .ensures ∙ ap (arranged (o .p) (o .q) (o .t)) (c .before .turn .ensures)
+    c .arrange .ensures ∙ ap (arranged (o .p) (o .q) (o .t)) (c .before .reorder-controls .ensures)
 
 place-refusal-requires : tie.Need-place-refusal-requires
 place-refusal-requires c κs = search needs
@@ -92,9 +92,9 @@ place-refusal-requires c κs = search needs
 returns : tie.Need-returns
 returns c =
     let a = c .before .before .args in
-    let told = c .before .place-refusal .ensures in
+    let outcome = c .before .place-refusal .ensures in
     refused-point (a .net .now) (a .w) (a .h) (a .p) (a .q)
-    (told ∙ refused-place (a .net .now) (a .w) (a .h) (a .p) (a .q) (λ e. c .if1 .taken (told ∙ e))) (c .if1 .taken)
+    (outcome ∙ refused-place (a .net .now) (a .w) (a .h) (a .p) (a .q) (λ e. c .if1 .taken (outcome ∙ e))) (c .if1 .taken)
 
 locate-requires : tie.Need-locate-requires
 locate-requires c κs = (good c .size, good c .place)
@@ -122,8 +122,8 @@ put-in-order-requires c κs =
       subst (λ (n : ℕ). n ≤ 1024) (sym (l .locate .ensures .share-3)) (small three),
     )
 
-turn-requires : tie.Need-turn-requires
-turn-requires c κs = search needs
+reorder-controls-requires : tie.Need-reorder-controls-requires
+reorder-controls-requires c κs = search needs
 
 arrange-requires : tie.Need-arrange-requires
 arrange-requires c κs =
@@ -167,7 +167,7 @@ surface-point-spec =
     returns-2
     load-triangle-requires
     put-in-order-requires
-    turn-requires
+    reorder-controls-requires
     arrange-requires
     evaluate-requires
     returns-3)

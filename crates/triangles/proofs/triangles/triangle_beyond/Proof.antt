@@ -3,7 +3,7 @@ use mathlib.Core.Bool.{Bool}
 use mathlib.Core.Path.{sym, ap, _∙_}
 use borrow.Author.Needs.{needs}
 use Rattle.net.specs.Net.{triangleAt}
-use Rattle.triangles.specs.TurnedAway.{triangleBeyond}
+use Rattle.triangles.specs.Refusals.{triangleBeyond}
 use Rattle.triangles.proofs.triangles.triangle_beyond.Statement.{statement}
 use Rattle.triangles.proofs.triangles.triangle_beyond.Tie as tie
 

@@ -4,7 +4,7 @@ use Prim.Native.Nat.{ℕ}
 use mir.Syntax.{w32}
 use borrow.Author.Needs.{needs}
 use Rattle.exact.proofs.SignedCode.{reads-as}
-use Rattle.words.specs.NetFile.{payloadOf, signed}
+use Rattle.words.specs.NetFile.{wordPayload, signed}
 use Rattle.words.proofs.words.first_number.Statement.{statement}
 use Rattle.words.proofs.words.first_number.Tie as tie
 
@@ -15,7 +15,7 @@ signed-number-requires : tie.Need-signed-number-requires
 signed-number-requires c κs = search needs
 
 returns : tie.Need-returns
-returns c = reads-as w32 (c .signed-number .result) (c .signed-number .ok) (c .signed-number .ensures ∙ ap (λ (v : ℕ). signed (payloadOf v)) (c .before .first-word .ensures))
+returns c = reads-as w32 (c .signed-number .result) (c .signed-number .ok) (c .signed-number .ensures ∙ ap (λ (v : ℕ). signed (wordPayload v)) (c .before .first-word .ensures))
 
 pub first-number-spec : {M : Type 1} → statement M
 first-number-spec = tie.close (tie.spec first-word-requires signed-number-requires returns)

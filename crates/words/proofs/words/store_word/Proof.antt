@@ -5,7 +5,7 @@ use lib.Seq.{sets}
 use borrow.Author.Needs.{needs}
 use Rattle.words.specs.NetFile.{word}
 use Rattle.words.specs.LowFirst.{lowBytes}
-use Rattle.words.proofs.WordLaws.{low-turned}
+use Rattle.words.proofs.WordLaws.{low-swapped}
 use Rattle.words.proofs.words.store_word.Statement.{statement}
 use Rattle.words.proofs.words.store_word.Tie as tie
 
@@ -15,8 +15,8 @@ mul-v c = search needs
 add-v : tie.Need-add-v
 add-v c = search needs
 
-turn-requires : tie.Need-turn-requires
-turn-requires c κs = search needs
+swap-bytes-requires : tie.Need-swap-bytes-requires
+swap-bytes-requires c κs = search needs
 
 store-low-first-requires : tie.Need-store-low-first-requires
 store-low-first-requires c κs = search needs
@@ -29,8 +29,8 @@ returns c =
     let s = c .before .before .before .before .before .before in
     let v = word (s .args .kind) (s .args .payload) in
     c .before .before .store-low-first .ensures
-    ∙ ap (sets (s .args .out .now) (s .args .at)) (ap lowBytes (c .before .before .before .before .turn .ensures) ∙ low-turned v (omega (arith, s .pre .0, s .pre .1)))
+    ∙ ap (sets (s .args .out .now) (s .args .at)) (ap lowBytes (c .before .before .before .before .swap-bytes .ensures) ∙ low-swapped v (omega (arith, s .pre .0, s .pre .1)))
 
 pub store-word-spec : {M : Type 1} → statement M
 store-word-spec =
-    tie.close (tie.spec mul-v add-v turn-requires store-low-first-requires same-length returns)
+    tie.close (tie.spec mul-v add-v swap-bytes-requires store-low-first-requires same-length returns)

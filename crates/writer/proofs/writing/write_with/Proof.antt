@@ -9,12 +9,12 @@ use lib.IntN.{ℤ}
 use borrow.Author.Needs.{needs}
 use Rattle.exact.specs.Filling.{over}
 use Rattle.net.specs.Net.{numbers, stride}
-use Rattle.net.specs.TurnedAway.{anyBeyond}
+use Rattle.net.specs.Refusals.{anyBeyond}
 use Rattle.net.proofs.Places.{good-size, few-vertices}
 use Rattle.net.proofs.Faults.{accepted-answer, refused-answer, when-accepted, when-refused}
 use Rattle.net.proofs.Beyond.{cut}
 use Rattle.words.specs.NetFile.{netFile, fileSize}
-use Rattle.writer.specs.TurnedAway.{writeRefusal, noRoom}
+use Rattle.writer.specs.Refusals.{writeRefusal, noRoom}
 use Rattle.writer.proofs.WriteLaws.{GoodNet, good-net, cut-file}
 use Rattle.writer.proofs.writing.write_with.Statement.{statement}
 use Rattle.writer.proofs.writing.write_with.Tie as tie

@@ -7,7 +7,7 @@ use Prim.Native.Nat.{ℕ, _-_}
 use lib.IntN.{ℤ, pos}
 use lib.ListN.{replicate, set}
 use Rattle.net.specs.Net.{one, two, three, Triangle, triangleAt, corner, numbers, vertexNumbers}
-use Rattle.net.specs.TurnedAway.{anyBeyond}
+use Rattle.net.specs.Refusals.{anyBeyond}
 
 -- 3: a number of the triangle's nine control points outside the net range
 abbrev pub triangleBeyond : List ℤ → ℕ → Triangle → Bool

@@ -7,7 +7,7 @@ use lib.Dec.{ltb}
 use lib.IntN.{ℤ, pos}
 use lib.ListN.{replicate}
 use Rattle.net.specs.Net.{numbers}
-use Rattle.net.specs.TurnedAway.{Fault, firstFault, badSize, shortNet, netBeyond}
+use Rattle.net.specs.Refusals.{Fault, firstFault, badSize, shortNet, netBeyond}
 use Rattle.subdivision.specs.Refinement.{sideAfter}
 use Rattle.steps.specs.RefinedNet.{numbersAfter, scratchNeed}
 
@@ -15,10 +15,10 @@ use Rattle.steps.specs.RefinedNet.{numbersAfter, scratchNeed}
 abbrev pub tooDeep : ℕ → ℕ → ℕ → Bool
 tooDeep w h k = ltb 6 k || (ltb 1025 (sideAfter k w) || ltb 1025 (sideAfter k h))
 
--- 5: an output of `room` numbers is shorter than the refined net, or a scratch of `spare` numbers shorter than k steps
--- need
+-- 5: an output of `room` numbers is shorter than the refined net, or a scratch of `scratchLength` numbers is
+-- shorter than k steps need
 abbrev pub tooShort : ℕ → ℕ → ℕ → ℕ → ℕ → Bool
-tooShort w h k room spare = ltb room (numbersAfter k w h) || ltb spare (scratchNeed k w h)
+tooShort w h k room scratchLength = ltb room (numbersAfter k w h) || ltb scratchLength (scratchNeed k w h)
 
 -- the rows that look at sizes alone, and those that look at the net; `short` is whether a lent output or scratch is too
 -- short, and 3 looks at the whole net

@@ -7,8 +7,8 @@ use lib.Dec.{leb, ltb}
 use lib.IntN.{ℤ, pos}
 use lib.ListN.{replicate, set}
 use Rattle.net.specs.Net.{triangleAt, numbers}
-use Rattle.net.specs.TurnedAway.{firstFault, badSize, shortNet}
-use Rattle.triangles.specs.TurnedAway.{triangleBeyond}
+use Rattle.net.specs.Refusals.{firstFault, badSize, shortNet}
+use Rattle.triangles.specs.Refusals.{triangleBeyond}
 
 -- 6: no such triangle
 abbrev pub noTriangle : ℕ → ℕ → ℕ → ℕ → Bool

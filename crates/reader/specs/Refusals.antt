@@ -8,13 +8,13 @@ use lib.IntN.{ℤ, pos}
 use lib.ListN.{length, take, drop, replicate}
 use Rattle.exact.specs.Filling.{runs}
 use Rattle.net.specs.Net.{numbers}
-use Rattle.net.specs.TurnedAway.{Fault, firstFault, badSide, beyond}
-use Rattle.words.specs.NetFile.{word, payloadOf, widthKind, heightKind, xKind, yKind, zKind, endKind, wordBytes, firstWord, points, pointBytes, netFile, fileWidth, fileHeight, firstNumber, fromPoint}
-use Rattle.words.specs.TurnedAway.{wordFaults}
+use Rattle.net.specs.Refusals.{Fault, firstFault, badSide, beyond}
+use Rattle.words.specs.NetFile.{word, wordPayload, widthKind, heightKind, xKind, yKind, zKind, endKind, wordBytes, firstWord, points, pointBytes, netFile, fileWidth, fileHeight, firstNumber, fromPoint}
+use Rattle.words.specs.Refusals.{wordFaults}
 
 -- 'word by word: 7, 8, then 1 or 3': 1 at a side's word, 3 at a number's
 abbrev pub sideFaults : List ℕ → ℕ → List Fault
-sideFaults left kind = wordFaults left kind ++ (badSide (payloadOf (firstWord left)), 1) ∷ []
+sideFaults left kind = wordFaults left kind ++ (badSide (wordPayload (firstWord left)), 1) ∷ []
 
 abbrev pub numberFaults : List ℕ → ℕ → List Fault
 numberFaults left kind = wordFaults left kind ++ (beyond (firstNumber left), 3) ∷ []
@@ -25,7 +25,7 @@ pointFaults left = numberFaults left xKind ++ numberFaults (drop 4 left) yKind +
 -- the end word: its payload is 0, or 8; 9, bytes after it, comes last
 abbrev pub endFaults : List ℕ → List Fault
 endFaults left =
-    wordFaults left endKind ++ (not (eqb (payloadOf (firstWord left)) 0), 8) ∷ (ltb 4 (length left), 9) ∷ []
+    wordFaults left endKind ++ (not (eqb (wordPayload (firstWord left)) 0), 8) ∷ (ltb 4 (length left), 9) ∷ []
 
 -- the reader, in the order of the bytes; '5 comes after the height word'
 abbrev pub headFaults : List ℕ → Bool → List Fault

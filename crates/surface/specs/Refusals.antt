@@ -5,10 +5,10 @@ use Prim.Native.Nat.{ℕ, _-_}
 use lib.IntN.{ℤ, pos}
 use lib.ListN.{replicate, set}
 use Rattle.net.specs.Net.{numbers}
-use Rattle.net.specs.TurnedAway.{firstFault, badSize, shortNet}
+use Rattle.net.specs.Refusals.{firstFault, badSize, shortNet}
 use Rattle.places.specs.Places.{chosen}
-use Rattle.places.specs.TurnedAway.{noPlace}
-use Rattle.triangles.specs.TurnedAway.{triangleBeyond}
+use Rattle.places.specs.Refusals.{noPlace}
+use Rattle.triangles.specs.Refusals.{triangleBeyond}
 
 -- 3 looks at the triangle that is chosen for the place
 abbrev pub pointRefusal : List ℤ → ℕ → ℕ → ℕ → ℕ → ℕ

@@ -1,11 +1,11 @@
--- `triangles::triangles::turn` meets its contract.
+-- `triangles::triangles::reorder_controls` meets its contract.
 use mathlib.Core.List.{[], _∷_}
 use mathlib.Core.Bool.{Bool}
 use mathlib.Core.Path.{sym, ap, _∙_}
 use borrow.Author.Needs.{needs}
-use Rattle.triangles.specs.Corners.{turned}
-use Rattle.triangles.proofs.triangles.turn.Statement.{statement}
-use Rattle.triangles.proofs.triangles.turn.Tie as tie
+use Rattle.triangles.specs.Corners.{reorderedControls}
+use Rattle.triangles.proofs.triangles.reorder_controls.Statement.{statement}
+use Rattle.triangles.proofs.triangles.reorder_controls.Tie as tie
 
 array-copy-out-pick : tie.Need-array-copy-out-pick
 array-copy-out-pick c = search needs
@@ -47,16 +47,16 @@ returns : tie.Need-returns
 returns c =
     let a = c .before .before .before .before .before .before .before .args in
     (λ t. c .before .before .before .before .pick .ensures t ∷ c .before .before .pick2 .ensures t ∷ c .pick3 .ensures t ∷ [])
-    ∙ ap (λ (d : Bool). turned d (a .t1)) (sym (c .before .before .before .before .before .before .if1 .taken))
+    ∙ ap (λ (d : Bool). reorderedControls d (a .t1)) (sym (c .before .before .before .before .before .before .if1 .taken))
 
 returns-2 : tie.Need-returns-2
 returns-2 c =
     let a = c .before .before .before .before .before .before .before .args in
     (λ t. c .before .before .before .before .pick4 .ensures t ∷ c .before .before .pick5 .ensures t ∷ c .pick6 .ensures t ∷ [])
-    ∙ ap (λ (d : Bool). turned d (a .t1)) (sym (c .before .before .before .before .before .before .if1 .left))
+    ∙ ap (λ (d : Bool). reorderedControls d (a .t1)) (sym (c .before .before .before .before .before .before .if1 .left))
 
-pub turn-spec : {M : Type 1} → statement M
-turn-spec =
+pub reorder-controls-spec : {M : Type 1} → statement M
+reorder-controls-spec =
     tie.close
     (tie.spec
     array-copy-out-pick

@@ -4,10 +4,10 @@ use mathlib.Core.Bool.{Bool, true}
 use mathlib.Core.List.{List, [], _∷_, _++_}
 use Prim.Native.Nat.{ℕ}
 use lib.IntN.{ℤ}
-use Rattle.net.specs.TurnedAway.{firstFault}
-use Rattle.places.specs.TurnedAway.{noPlace}
+use Rattle.net.specs.Refusals.{firstFault}
+use Rattle.places.specs.Refusals.{noPlace}
 use Rattle.subdivision.specs.Refinement.{sideAfter}
-use Rattle.refine.specs.TurnedAway.{sizeFaults, netFaults}
+use Rattle.refine.specs.Refusals.{sizeFaults, netFaults}
 
 -- a place off the refined grid is 6
 abbrev pub offGrid : ℕ → ℕ → ℕ → ℕ → ℕ → Bool

@@ -1,9 +1,9 @@
--- `words::words::turn` meets its contract.
+-- `words::words::swap_bytes` meets its contract.
 use mathlib.Core.Path.{refl}
 use borrow.Author.Needs.{needs}
-use Rattle.words.specs.LowFirst.{turned}
-use Rattle.words.proofs.words.turn.Statement.{statement}
-use Rattle.words.proofs.words.turn.Tie as tie
+use Rattle.words.specs.LowFirst.{swappedBytes}
+use Rattle.words.proofs.words.swap_bytes.Statement.{statement}
+use Rattle.words.proofs.words.swap_bytes.Tie as tie
 
 mul-result : tie.Need-mul-result
 mul-result c = search needs
@@ -24,10 +24,10 @@ add-result-3 : tie.Need-add-result-3
 add-result-3 c = search needs
 
 returns : tie.Need-returns
-unfolding turned
+unfolding swappedBytes
 returns c = refl
 
-pub turn-spec : {M : Type 1} → statement M
-turn-spec =
+pub swap-bytes-spec : {M : Type 1} → statement M
+swap-bytes-spec =
     tie.close
     (tie.spec mul-result mul-result-2 add-result mul-result-3 add-result-2 add-result-3 returns)

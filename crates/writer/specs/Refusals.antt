@@ -7,7 +7,7 @@ use lib.Dec.{ltb}
 use lib.IntN.{ℤ, pos}
 use lib.ListN.{replicate}
 use Rattle.net.specs.Net.{numbers}
-use Rattle.net.specs.TurnedAway.{Fault, firstFault, badSize, shortNet, netBeyond}
+use Rattle.net.specs.Refusals.{Fault, firstFault, badSize, shortNet, netBeyond}
 use Rattle.words.specs.NetFile.{fileSize}
 
 -- the writer: 1, 2, 5, 3, and 3 looks at the whole net; `short` is whether a lent output is too short

@@ -56,7 +56,7 @@ anyBeyond (z ∷ zs) = beyond z || anyBeyond zs
 unfoldable pub netBeyond : List ℤ → ℕ → ℕ → Bool
 netBeyond net w h = anyBeyond (take (numbers w h) net)
 
--- a net that is taken: rows 1, 2 and 3 of document 01's table do not turn it away
+-- an accepted net: rows 1, 2 and 3 of document 01's table do not refuse it
 pub record AcceptedNet (net : List ℤ) (w h : ℕ) : Type 0 where
   pub size : badSize w h ≡ false
   pub long : shortNet net w h ≡ false
@@ -100,7 +100,7 @@ no-part : vertexPart (replicate (numbers 2 2) (pos 7)) 2 2 1 2 ≡ []
 unfolding vertexPart
 no-part = refl
 
--- a net of 2 by 2 at the limit of the range is taken; one number beyond it counts, and one after the net does not
+-- a net of 2 by 2 at the limit of the range is accepted; one number beyond it counts, and one after the net does not
 taken : AcceptedNet (replicate (numbers 2 2) (pos 16777216)) 2 2
 unfolding netBeyond
 taken = record { size = refl; long = refl; inRange = refl }
