@@ -5,17 +5,16 @@ use mathlib.Core.Bool.{Bool, true, false}
 use mathlib.Core.List.{List, [], _∷_, map}
 use Prim.Native.Nat.{_+_, _*_, _≤_, _<_, _^_}
 use native.Mathlib.Omega.{arith}
-use lib.Dec.{T, leb, leb→le}
 use lib.IntN.{ℤ, natAbs}
 use lib.Signed.{mag}
 use mir.Facts.{toZ-ofZ}
 use mir.Syntax.{w32, w64}
 use mir.Val.{SFits, toZ, ofZ}
-use Rattle.exact.specs.WeightedSum.{weightedSum, Summed, Within}
+use Rattle.exact.specs.WeightedSum.{weightedSum, sizes, Summed, Within}
 use Rattle.exact.proofs.Expressions.{Expr, var, lit, normal, identities}
 use Rattle.exact.proofs.SignedCode.{reads-back}
 use Rattle.exact.proofs.Sizes.{fits-of-size}
-use Rattle.exact.proofs.WeightedSumLaws.{sizes, sum-sizes}
+use Rattle.exact.proofs.WeightedSumLaws.{sum-sizes}
 use Rattle.net.specs.Net.{Index, one, two, three, rank}
 use Rattle.places.specs.Places.{o123}
 use Rattle.triangles.specs.BezierPoints.{Controls, controlList}
@@ -55,11 +54,10 @@ points-by-rows true e = identities (byRows true) (points true) (controlList e) (
 -- ---- the weights of a row add up to 36
 
 -- what the code's sum with such a row gives fits, and reads as the exact sum
-module _ {row values : List ℤ} {x : ℤ} (e : Summed row values x) (h : T (leb (sizes row) 36)) (k : Within 16777216 values) (g : mag x < 2 ^ 63) where
+module _ {row values : List ℤ} {x : ℤ} (e : Summed row values x) (h : sizes row ≤ 36) (k : Within 16777216 values) (g : mag x < 2 ^ 63) where
   pub row-fits : SFits w32 (toZ w64 (ofZ w64 x))
   row-fits =
-      let size : natAbs (weightedSum row values) ≤ 603979776 =
-      omega (arith, sum-sizes 16777216 row values k, leb→le (sizes row) 36 h) in
+      let size : natAbs (weightedSum row values) ≤ 603979776 = omega (arith, sum-sizes 16777216 row values k, h) in
       subst (SFits w32) (sym (e .sum) ∙ sym (reads-back w64 x g)) (fits-of-size {w = w32} size tt)
 
   pub row-reads : toZ w32 (ofZ w32 (toZ w64 (ofZ w64 x))) ≡ weightedSum row values

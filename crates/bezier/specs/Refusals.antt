@@ -25,13 +25,24 @@ bezierRefusal net w h i j down room =
     ∷ (triangleBeyond net w (triangleAt i j down), 3)
     ∷ [])
 
--- worked cases: a missing triangle, and a number beyond the range at a vertex of the down triangle, with and without
--- room
+-- worked cases: every fault at once, and then without the one that was found, to a number beyond the range at a vertex of
+-- the down triangle and to none; the last cell of 3 by 2, and a row of cells that it does not have
 abbrev zeros : List ℤ
 zeros = replicate (numbers 2 2) (pos 0)
 
-examples :
-    (bezierRefusal (set zeros (numbers 2 2 - 1) (pos 16777217)) 2 2 0 0 true 57 ≡ 3)
-    × (bezierRefusal (set zeros (numbers 2 2 - 1) (pos 16777217)) 2 2 0 0 true 56 ≡ 5)
-    × (bezierRefusal zeros 2 2 1 0 false 57 ≡ 6)
-examples = (refl, refl, refl)
+abbrev tooLarge : List ℤ
+tooLarge = set zeros (numbers 2 2 - 1) (pos 16777217)
+
+order :
+    (bezierRefusal [] 2 1 1 0 true 56 ≡ 1)
+    × (bezierRefusal [] 2 2 1 0 true 56 ≡ 6)
+    × (bezierRefusal [] 2 2 0 0 true 56 ≡ 2)
+    × (bezierRefusal tooLarge 2 2 0 0 true 56 ≡ 5)
+    × (bezierRefusal tooLarge 2 2 0 0 true 57 ≡ 3)
+    × (bezierRefusal zeros 2 2 0 0 true 57 ≡ 0)
+order = (refl, refl, refl, refl, refl, refl)
+
+cells :
+    (bezierRefusal (replicate (numbers 3 2) (pos 0)) 3 2 1 0 false 57 ≡ 0)
+    × (bezierRefusal (replicate (numbers 3 2) (pos 0)) 3 2 0 1 false 57 ≡ 6)
+cells = (refl, refl)

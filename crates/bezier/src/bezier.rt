@@ -13,45 +13,52 @@ ghost use mathlib.Core.Bool.{false};
 ghost use mathlib.Core.List.{map};
 ghost use Prim.Native.Nat.{_≤_};
 ghost use lib.ListN.{length};
-ghost use Rattle.exact.specs.WeightedSum.{weightedSum, Within};
+ghost use Rattle.exact.specs.WeightedSum.{weightedSum, sizes, Within};
 ghost use Rattle.exact.specs.Filling.{over, runs};
 ghost use Rattle.net.specs.Refusals.{badSize};
 ghost use Rattle.bezier.specs.Refusals.{noTriangle, bezierRefusal};
 ghost use Rattle.bezier.specs.Answers.{bezierOutcome, bezierAnswer, bezierOutput};
 ghost use Rattle.bezier.specs.Weights.{bezierRows, threeAt};
 
-// The 19 points times 36, in document 01's order and in one coordinate, of the values of ck, cn, cm at each corner. The
-// weights of a point sum to 36, so it fits for values of the net range.
+// One of the 19 points times 36 in one coordinate. Its weights add up to 36, so it fits for values of the net range.
+fn ordinate(weights: [i64; 9], values: [i32; 9]) -> i32
+    requires { ⌜ (sizes weights ≤ 36) × Within 16777216 values ⌝ }
+    ensures { λ r. ⌜ r ≡ weightedSum weights values ⌝ }
+{
+    weighted_sum9(weights, values) as i32
+}
+
+// The 19 points times 36, in document 01's order and in one coordinate, of the values of ck, cn, cm at each corner.
 fn ordinates(values: [i32; 9]) -> [i32; 19]
     requires { ⌜ Within 16777216 values ⌝ }
     ensures { λ r. ⌜ r ≡ map (λ row. weightedSum row values) bezierRows ⌝ }
 {
     [
         // s1 s2 s3
-        weighted_sum9([12, 12, 12, 0, 0, 0, 0, 0, 0], values) as i32,
-        weighted_sum9([0, 0, 0, 12, 12, 12, 0, 0, 0], values) as i32,
-        weighted_sum9([0, 0, 0, 0, 0, 0, 12, 12, 12], values) as i32,
+        ordinate([12, 12, 12, 0, 0, 0, 0, 0, 0], values),
+        ordinate([0, 0, 0, 12, 12, 12, 0, 0, 0], values),
+        ordinate([0, 0, 0, 0, 0, 0, 12, 12, 12], values),
         // u12 u13 u21 u23 u31 u32
-        weighted_sum9([24, 6, 6, 0, 0, 0, 0, 0, 0], values) as i32,
-        weighted_sum9([18, 18, 0, 0, 0, 0, 0, 0, 0], values) as i32,
-        weighted_sum9([0, 0, 0, 18, 18, 0, 0, 0, 0], values) as i32,
-        weighted_sum9([0, 0, 0, 24, 6, 6, 0, 0, 0], values) as i32,
-        weighted_sum9([0, 0, 0, 0, 0, 0, 24, 6, 6], values) as i32,
-        weighted_sum9([0, 0, 0, 0, 0, 0, 18, 18, 0], values) as i32,
+        ordinate([24, 6, 6, 0, 0, 0, 0, 0, 0], values),
+        ordinate([18, 18, 0, 0, 0, 0, 0, 0, 0], values),
+        ordinate([0, 0, 0, 18, 18, 0, 0, 0, 0], values),
+        ordinate([0, 0, 0, 24, 6, 6, 0, 0, 0], values),
+        ordinate([0, 0, 0, 0, 0, 0, 24, 6, 6], values),
+        ordinate([0, 0, 0, 0, 0, 0, 18, 18, 0], values),
         // v1 v2 v3
-        weighted_sum9([24, 12, 0, 0, 0, 0, 0, 0, 0], values) as i32,
-        weighted_sum9([0, 0, 0, 24, 12, 0, 0, 0, 0], values) as i32,
-        weighted_sum9([0, 0, 0, 0, 0, 0, 24, 12, 0], values) as i32,
+        ordinate([24, 12, 0, 0, 0, 0, 0, 0, 0], values),
+        ordinate([0, 0, 0, 24, 12, 0, 0, 0, 0], values),
+        ordinate([0, 0, 0, 0, 0, 0, 24, 12, 0], values),
         // r12 r13 r23
-        weighted_sum9([12, 3, 3, 9, 9, 0, 0, 0, 0], values) as i32,
-        weighted_sum9([9, 9, 0, 0, 0, 0, 12, 3, 3], values) as i32,
-        weighted_sum9([0, 0, 0, 12, 3, 3, 9, 9, 0], values) as i32,
+        ordinate([12, 3, 3, 9, 9, 0, 0, 0, 0], values),
+        ordinate([9, 9, 0, 0, 0, 0, 12, 3, 3], values),
+        ordinate([0, 0, 0, 12, 3, 3, 9, 9, 0], values),
         // m12 m13 m23
-        weighted_sum9([12, 6, 0, 12, 6, 0, 0, 0, 0], values) as i32,
-        weighted_sum9([12, 6, 0, 0, 0, 0, 12, 6, 0], values) as i32,
-        weighted_sum9([0, 0, 0, 12, 6, 0, 12, 6, 0], values) as i32,
+        ordinate([12, 6, 0, 12, 6, 0, 0, 0, 0], values),
+        ordinate([12, 6, 0, 0, 0, 0, 12, 6, 0], values),
+        ordinate([0, 0, 0, 12, 6, 0, 12, 6, 0], values),
         // z
-        weighted_sum9([8, 4, 0, 8, 4, 0, 8, 4, 0], values) as i32,
+        ordinate([8, 4, 0, 8, 4, 0, 8, 4, 0], values),
     ]
 }
 

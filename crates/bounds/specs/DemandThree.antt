@@ -1,13 +1,15 @@
 -- Demand 3, of the definitions: how far the points computed from a refined net are from the exact spline of the
 -- starting net, and between which control values they lie. `demand-three` in proofs/DemandThree.antt proves it.
 use mathlib.Core.Path.{_≡_, refl}
-use mathlib.Core.Bool.{cond}
+use mathlib.Core.Bool.{true, false, cond}
 use mathlib.Core.List.{List, [], _∷_}
 use Prim.Native.Nat.{ℕ, _+_, _*_, _^_, _≤_, _<_}
+use native.Mathlib.Omega.{arith}
+use lib.Dec.{lit≤}
 use lib.IntN.{ℤ, pos, negsuc, natAbs, _-ℤ_, _*ℤ_}
-use lib.Signed.{_≤ℤ_, leZ}
+use lib.Signed.{_≤ℤ_, leZ, leZ-yes}
 use Rattle.exact.specs.Rounding.{rounded}
-use Rattle.net.specs.Net.{Triangle, Field, field}
+use Rattle.net.specs.Net.{Triangle, triangleAt, Field, controlPoint, controlTriangle, field, squares}
 use Rattle.net.specs.Refusals.{AcceptedNet}
 use Rattle.places.specs.Places.{OnGrid, LiesIn}
 use Rattle.triangles.specs.BezierPoints.{controlsOf, controlList}
@@ -49,6 +51,38 @@ DemandThree =
     NearSpline (field net w x) w h k p q (refinedCoordinate (field net w x) w h k p q)
     × ((t : Triangle) → OfNet w h t → LiesIn (fineEdge k) p q t → WithinControls (field net w x) t (refinedCoordinate (field net w x) w h k p q))
 
--- worked cases: of 3, -2 and 5; six steps
+-- worked cases: of 3, -2 and 5; six steps; a net of 7s: after one step 8 is near the spline, and 9 is not, without a step
+-- 8 is not; of the net of 2 by 2 whose numbers are the squares, x of the up triangle goes from 0 to 576 and of the down
+-- triangle from 81 to 1,089
 limits : (least (pos 3 ∷ negsuc 1 ∷ pos 5 ∷ []) ≡ negsuc 1) × (greatest (pos 3 ∷ negsuc 1 ∷ pos 5 ∷ []) ≡ pos 5) × (fineEdge 6 ≡ 65536)
 limits = (refl, refl, refl)
+
+abbrev sevens : Field
+sevens v k = pos 7
+
+near-sevens : NearSpline sevens 2 2 1 0 0 (pos 8)
+unfolding spline
+near-sevens = lit≤ tt
+
+far-from-sevens : (NearSpline sevens 2 2 1 0 0 (pos 9) → ⊥) × (NearSpline sevens 2 2 0 0 0 (pos 8) → ⊥)
+unfolding spline
+far-from-sevens = ((λ e. omega (arith, e)), (λ e. omega (arith, e)))
+
+abbrev byX : Field
+byX = field (squares 36) 2 0
+
+within-squares :
+    WithinControls byX (triangleAt 0 0 false) (pos 0)
+    × WithinControls byX (triangleAt 0 0 false) (pos 576)
+    × WithinControls byX (triangleAt 0 0 true) (pos 81)
+    × WithinControls byX (triangleAt 0 0 true) (pos 1089)
+unfolding controlTriangle controlPoint
+within-squares = ((leZ-yes tt, leZ-yes tt), (leZ-yes tt, leZ-yes tt), (leZ-yes tt, leZ-yes tt), (leZ-yes tt, leZ-yes tt))
+
+outside-squares :
+    (WithinControls byX (triangleAt 0 0 false) (pos 577) → ⊥)
+    × (WithinControls byX (triangleAt 0 0 false) (negsuc 0) → ⊥)
+    × (WithinControls byX (triangleAt 0 0 true) (pos 80) → ⊥)
+    × (WithinControls byX (triangleAt 0 0 true) (pos 1090) → ⊥)
+unfolding controlTriangle controlPoint
+outside-squares = ((λ e. e .1 .le), (λ e. e .0 .le), (λ e. e .0 .le), (λ e. e .1 .le))

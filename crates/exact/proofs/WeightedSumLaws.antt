@@ -12,7 +12,7 @@ use lib.ListN.{length, getD, drop, drop-of-length-le}
 use lib.Seq.{drop-cons}
 use lib.IntN.{ℤ, pos, natAbs, _+ℤ_, _-ℤ_, _*ℤ_, +ℤ-assoc, zero-*ℤ, *ℤ-zero, *ℤ-comm}
 use lib.Signed.{_≤ℤ_, ≤ℤ-refl}
-use Rattle.exact.specs.WeightedSum.{weightedSum, total, Within}
+use Rattle.exact.specs.WeightedSum.{weightedSum, total, sizes, Within}
 use Rattle.exact.proofs.Parts.{integers, sum-parts, size-parts}
 use Rattle.exact.proofs.Integers.{*ℤ-+ℤ}
 use Rattle.exact.proofs.Order.{+ℤ-mono, *ℤ-mono, ≡-≤ℤ, size-sum, size-product}
@@ -160,11 +160,12 @@ sum-size m n (w ∷ ws) [] h k = zero-le
 sum-size m n (w ∷ ws) (v ∷ vs) h k =
     omega (arith, size-sum (w *ℤ v) (weightedSum ws vs), size-product w v, mul-le-mul (h .0) (k .0), sum-size m n ws vs (h .1) (k .1))
 
--- the sizes of the weights, added up, times a bound for the values
-abbrev pub sizes : List ℤ → ℕ
-sizes [] = 0
-sizes (w ∷ ws) = natAbs w + sizes ws
+-- each number is at most as large as the sizes of all, added up
+pub sizes-within : (n : ℕ) (ws : List ℤ) → sizes ws ≤ n → Within n ws
+sizes-within n [] h = tt
+sizes-within n (w ∷ ws) h = (omega (arith, h), sizes-within n ws (omega (arith, h)))
 
+-- a bound from the sizes of the weights, added up, and a bound for the values
 pub sum-sizes : (n : ℕ) (ws vs : List ℤ) → Within n vs → natAbs (weightedSum ws vs) ≤ sizes ws * n
 unfolding weightedSum
 sum-sizes n [] vs k = zero-le

@@ -2,10 +2,12 @@
 // number of its first fault.
 use libc::STDIN_FILENO;
 use libc::STDOUT_FILENO;
+use listing_text::BUFFER_SIZE;
+use listing_text::INPUT_SIZE;
 use listing_text::ListAnswer;
 use listing_text::list_piece;
 use listing_text::list_refusal;
-use listing_text::refine_file;
+use listing_text::refine_input;
 ghost use Prim.Native.Nat.{_*_, _≤_};
 ghost use Rattle.net.specs.Refusals.{AcceptedNet};
 
@@ -37,14 +39,14 @@ fn print_refusal(n: u32) {
     io::write_all(STDOUT_FILENO, &line[..count]);
 }
 
-// At most the first 65,536 bytes are taken, and the two nets have room for 16,384 numbers each. Nothing is printed
-// before it is known whether something is refused.
+// The buffers have the sizes that the library names and holds them to. Nothing is printed before it is known whether
+// something is refused.
 fn main() {
-    let mut input = io::large_buffer();
-    let taken = io::read_full(STDIN_FILENO, &mut input);
-    let mut net = [0i32; 16384];
-    let mut refined = [0i32; 16384];
-    let answer = refine_file(&input[..taken], &mut net, &mut refined);
+    let mut input = [0u8; INPUT_SIZE];
+    let count = io::read_full(STDIN_FILENO, &mut input);
+    let mut net = [0i32; BUFFER_SIZE];
+    let mut refined = [0i32; BUFFER_SIZE];
+    let answer = refine_input(&input, count, &mut net, &mut refined);
     match answer {
         ListAnswer::Net(w, h) => print_listing(&refined, w, h),
         ListAnswer::Refused(n) => print_refusal(n),

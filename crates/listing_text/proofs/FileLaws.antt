@@ -1,7 +1,7 @@
 -- From a net file to the refined net: the faults of reading and of refining are one list, and what was read is what is
 -- refined.
 use mathlib.Core.Path.{_≡_, sym, ap, subst, _∙_}
-use mathlib.Core.Bool.{Bool}
+use mathlib.Core.Bool.{Bool, false}
 use mathlib.Core.List.{List, [], _∷_, _++_}
 use Prim.Native.Nat.{ℕ, _*_, _<_}
 use native.Mathlib.Omega.{arith}
@@ -11,7 +11,7 @@ use lib.ListN.{length, getD}
 use Rattle.exact.specs.Filling.{over, runs}
 use Rattle.exact.proofs.FillingLaws.{runs-same}
 use Rattle.net.specs.Net.{number}
-use Rattle.net.specs.Refusals.{Fault, AcceptedNet}
+use Rattle.net.specs.Refusals.{Fault, firstFault, AcceptedNet}
 use Rattle.net.proofs.Faults.{when-accepted, numbered-append, none-clear, clear-none, clear-parts, fault-before, fault-after, answered}
 use Rattle.places.specs.Places.{OnGrid}
 use Rattle.subdivision.specs.Refinement.{refinedSide, sideAfter}
@@ -22,13 +22,14 @@ use Rattle.refine.proofs.CutNets.{cut-refine-refusal, cut-refined}
 use Rattle.refined_points.proofs.RefinedPoints.{refined-accepted, refined-coordinate, point-of-refined}
 use Rattle.words.specs.NetFile.{fileWidth, fileHeight, fileNumbers}
 use Rattle.words.specs.Answers.{answer}
+use Rattle.writer.specs.Refusals.{writeFaults}
 use Rattle.reader.specs.Refusals.{readFaults, readRefusal, shortFor}
 use Rattle.reader.specs.Answers.{readNet}
 use Rattle.reader.proofs.ReadLaws.{read-numbered}
 use Rattle.netfile.specs.Promises.{Readable}
-use Rattle.netfile.proofs.AcceptedFiles.{read-front}
+use Rattle.netfile.proofs.AcceptedFiles.{read-front, accepted-again}
 use Rattle.listing_text.specs.Listing.{headLine, pointLine, refusalLine, vertexLine, listing}
-use Rattle.listing_text.specs.Printed.{bufferSize, listOutcome, listRefusal, refinedFile, ReadyToList}
+use Rattle.listing_text.specs.Printed.{bufferSize, listOutcome, listRefusal, refinedFile, stepRefusal, ReadyToList}
 use Rattle.listing_text.specs.Promises.{PiecesPrinted}
 use Rattle.listing_text.proofs.PieceLaws.{pieces-list}
 use Rattle.listing_text.specs.declared.files.ListAnswer.{ListAnswer}
@@ -64,6 +65,14 @@ module _ (file : List ℕ) (lent : List ℤ) (outRoom : ℕ) where
 
     pub refined-after : refinedNet (readNet file lent) w h 1 ≡ refinedFile file
     refined-after = cut-refined (readNet file lent) w h 1 ∙ ap (λ (l : List ℤ). refinedNet l w h 1) (read-front file lent taken)
+
+    -- which is 4 or 5, or nothing: what was read has all its numbers, and each is in range
+    pub refusal-first : stepRefusal w h outRoom ≡ listRefusal file (length lent) outRoom
+    refusal-first =
+        let net = readNet file lent in
+        let clear = none-clear (writeFaults net w h false) (lit< tt, (lit< tt, (lit< tt, (lit< tt, tt)))) (accepted-again file lent taken) in
+        (λ t. firstFault (sizeFaults w h 1 ++ (sym (clear .1 .0) t, 2) ∷ (short, 5) ∷ (sym (clear .1 .1 .1 .0) t, 3) ∷ []))
+        ∙ refusal-after
 
     -- and what is left is an accepted net
     pub accepted-after : (refined : List ℤ) → outRoom ≡ length refined → listRefusal file (length lent) outRoom ≡ 0 →

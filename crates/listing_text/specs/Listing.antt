@@ -5,7 +5,11 @@ use mathlib.Core.Path.{_≡_, refl}
 use mathlib.Core.List.{List, [], _∷_, _++_}
 use Prim.Native.Nat.{ℕ, zero, suc, _*_, _/_, _%_}
 use lib.IntN.{ℤ, pos, negsuc}
+use lib.ListN.{length}
+use Rattle.exact.specs.Rounding.{rounded, floorQuotient}
 use Rattle.exact.specs.Filling.{runs}
+use Rattle.net.specs.Net.{controlPoint, controlTriangle, squares}
+use Rattle.spline.specs.Spline.{spline}
 use Rattle.surface.specs.SurfacePoint.{coordinate}
 use Rattle.decimal.specs.Decimal.{digitsOf, decimal, signedDecimal}
 
@@ -59,11 +63,18 @@ unfoldable pub pieceText : List ℤ → ℕ → ℕ → ℕ → List ℕ
 pieceText net w h zero = headLine w h
 pieceText net w h (suc n) = vertexLine net w h (n % w) (n / w)
 
--- worked cases: lines of document 01's listing, a line with numbers below zero, and the line of refusal 12; piece 6 of
--- a net of 3 by 3 is the line of vertex (2, 1). `DoorListing.antt` has the whole listing of the door corner.
+-- worked cases: the first lines of nets of 3 by 3 and of 3 by 15, a line of document 01's listing, a line with numbers
+-- below zero, a longest line, and the line of refusal 12; piece 6 of a net of 3 by 3 is the line of vertex (2, 1), and
+-- piece 4 of a net of 2 by 3 that of vertex (1, 1); the line of vertex (1, 2) of the net of 2 by 3 whose numbers are the
+-- squares. `DoorListing.antt` has the whole listing of the door corner.
 head-of-three : headLine 3 3 ≡ 110 ∷ 101 ∷ 116 ∷ 32 ∷ 51 ∷ 32 ∷ 51 ∷ 10 ∷ []
 unfolding headLine decimal digitsOf
 head-of-three = refl
+
+-- net 3 15
+width-first : headLine 3 15 ≡ 110 ∷ 101 ∷ 116 ∷ 32 ∷ 51 ∷ 32 ∷ 49 ∷ 53 ∷ 10 ∷ []
+unfolding headLine decimal digitsOf
+width-first = refl
 
 -- 1 0 600 0 40
 second-vertex : pointLine 1 0 (pos 600) (pos 0) (pos 40) ≡ 49 ∷ 32 ∷ 48 ∷ 32 ∷ 54 ∷ 48 ∷ 48 ∷ 32 ∷ 48 ∷ 32 ∷ 52 ∷ 48 ∷ 10 ∷ []
@@ -75,11 +86,23 @@ numbers-below-zero : pointLine 12 3 (negsuc 4) (negsuc 39) (pos 0) ≡ 49 ∷ 50
 unfolding pointLine signedDecimal decimal digitsOf
 numbers-below-zero = refl
 
+longest : length (pointLine 1024 1024 (negsuc 2147483647) (negsuc 2147483647) (negsuc 2147483647)) ≡ longestLine
+unfolding pointLine signedDecimal decimal digitsOf
+longest = refl
+
 -- refused 12
 twelve-refused : refusalLine 12 ≡ 114 ∷ 101 ∷ 102 ∷ 117 ∷ 115 ∷ 101 ∷ 100 ∷ 32 ∷ 49 ∷ 50 ∷ 10 ∷ []
 unfolding refusalLine decimal digitsOf
 twelve-refused = refl
 
-sixth-piece : (net : List ℤ) → (pieceText net 3 3 6 ≡ vertexLine net 3 3 2 1) × (pieceText net 3 3 0 ≡ headLine 3 3)
+pieces :
+    (net : List ℤ) →
+    (pieceText net 3 3 6 ≡ vertexLine net 3 3 2 1)
+    × (pieceText net 3 3 0 ≡ headLine 3 3)
+    × (pieceText net 2 3 4 ≡ vertexLine net 2 3 1 1)
 unfolding pieceText
-sixth-piece net = (refl, refl)
+pieces net = (refl, refl, refl)
+
+line-of-a-vertex : vertexLine (squares 54) 2 3 1 2 ≡ pointLine 1 2 (pos 2310) (pos 2407) (pos 2506)
+unfolding coordinate spline rounded floorQuotient controlTriangle controlPoint
+line-of-a-vertex = refl

@@ -2,14 +2,16 @@
 use mathlib.Core.Path.{_≡_, refl}
 use mathlib.Core.Bool.{cond}
 use mathlib.Core.List.{List, [], _∷_, _++_}
-use Prim.Native.Nat.{ℕ}
-use lib.IntN.{ℤ}
-use lib.ListN.{take}
-use Rattle.net.specs.Refusals.{firstFault, accepted, AcceptedNet}
+use Prim.Native.Nat.{ℕ, _≤_}
+use lib.IntN.{ℤ, pos}
+use lib.ListN.{length, take, replicate}
+use Rattle.exact.specs.Filling.{runs}
+use Rattle.net.specs.Net.{numbers, squares}
+use Rattle.net.specs.Refusals.{firstFault, accepted, outputAfter, netBeyond, AcceptedNet}
 use Rattle.subdivision.specs.Refinement.{refinedSide}
 use Rattle.steps.specs.RefinedNet.{refinedNet}
 use Rattle.refine.specs.Refusals.{tooShort, sizeFaults, netFaults}
-use Rattle.words.specs.NetFile.{fileWidth, fileHeight, fileNumbers}
+use Rattle.words.specs.NetFile.{wordBytes, firstWord, pointBytes, netFile, fileWidth, fileHeight, firstPoint, fileNumbers}
 use Rattle.words.specs.Answers.{answer}
 use Rattle.reader.specs.Refusals.{readFaults, shortFor}
 use Rattle.decimal.specs.Decimal.{digitsOf, decimal}
@@ -41,6 +43,10 @@ listRefusal file netRoom outRoom =
 abbrev pub refinedFile : List ℕ → List ℤ
 refinedFile file = refinedNet (fileNumbers file) (fileWidth file) (fileHeight file) 1
 
+-- 4 and 5 of one step into `outRoom` numbers, which are all that refining can refuse of a net that was read
+abbrev pub stepRefusal : ℕ → ℕ → ℕ → ℕ
+stepRefusal w h outRoom = firstFault (sizeFaults w h 1 ++ (tooShort w h 1 outRoom 0, 5) ∷ [])
+
 abbrev pub listAnswer : List ℕ → ℕ → ℕ → ℕ × List ℕ
 listAnswer file netRoom outRoom = answer (listRefusal file netRoom outRoom) (refinedSide (fileWidth file) ∷ refinedSide (fileHeight file) ∷ [])
 
@@ -48,6 +54,21 @@ listAnswer file netRoom outRoom = answer (listRefusal file netRoom outRoom) (ref
 abbrev pub ReadyToList : ListAnswer → List ℤ → Type 0
 ReadyToList (listed.Net w h) net = AcceptedNet net w h
 ReadyToList (listed.Refused n) net = Unit {0}
+
+-- what refining a file answers and leaves: of the file, the buffers for its net and for the refined net before the call;
+-- and of the answer and the two buffers after it. A refusal changes neither.
+pub record RefineFileContract (file : List ℕ) (net refined : List ℤ) (r : ListAnswer) (netAfter refinedAfter : List ℤ) : Type 0 where
+  pub answered : listOutcome r ≡ listAnswer file (length net) (length refined)
+  pub netRead : netAfter ≡ outputAfter (listRefusal file (length net) (length refined)) (fileNumbers file) net
+  pub netRefined : refinedAfter ≡ outputAfter (listRefusal file (length net) (length refined)) (refinedFile file) refined
+  pub ready : ReadyToList r refinedAfter
+
+-- the buffers that the program lends: its whole input of at most so many bytes, of which `count` were read, and two nets
+pub record Buffers (input : List ℕ) (count : ℕ) (net refined : List ℤ) : Type 0 where
+  pub inputLength : length input ≡ inputSize
+  pub inputRead : count ≤ inputSize
+  pub netLength : length net ≡ bufferSize
+  pub refinedLength : length refined ≡ bufferSize
 
 -- the text of a file, and what is printed for an input
 abbrev pub fileText : List ℕ → List ℕ
@@ -59,7 +80,34 @@ fileText file =
 abbrev pub printed : List ℕ → List ℕ
 printed input = fileText (take inputSize input)
 
--- worked case: an empty input prints "refused 7"; `door-input` in `door_corner` has the door corner's file
+-- worked cases: document 01's sizes; outcomes of answers; an empty input prints "refused 7". Of the file of the net of 2
+-- by 3 whose numbers are the squares: room for its net and for the 3 by 5, a number too few for either, and a fault of
+-- reading before one of refining. `door-input` in `door_corner` has the door corner's file.
+buffers : (inputSize ≡ 65536) × (bufferSize ≡ 16384)
+buffers = (refl, refl)
+
+outcomes : (listOutcome (listed.Net 3 5) ≡ (0, 3 ∷ 5 ∷ [])) × (listOutcome (listed.Refused 4) ≡ (4, []))
+outcomes = (refl, refl)
+
 empty-input : printed [] ≡ 114 ∷ 101 ∷ 102 ∷ 117 ∷ 115 ∷ 101 ∷ 100 ∷ 32 ∷ 55 ∷ 10 ∷ []
 unfolding refusalLine decimal digitsOf
 empty-input = refl
+
+abbrev file23 : List ℕ
+file23 = netFile (squares 54) 2 3
+
+answers :
+    (listAnswer file23 54 135 ≡ (0, 3 ∷ 5 ∷ []))
+    × (listAnswer file23 53 135 ≡ (5, []))
+    × (listAnswer file23 54 134 ≡ (5, []))
+    × (listAnswer (file23 ++ 0 ∷ []) 54 134 ≡ (9, []))
+unfolding netBeyond netFile wordBytes pointBytes firstWord firstPoint runs
+answers = (refl, refl, refl, refl)
+
+-- 4 before 5: 2 by 514 would be 1,027 high
+steps : (stepRefusal 2 514 0 ≡ 4) × (stepRefusal 2 3 134 ≡ 5) × (stepRefusal 2 3 135 ≡ 0)
+steps = (refl, refl, refl)
+
+ready-to-list : ReadyToList (listed.Net 2 2) (replicate (numbers 2 2) (pos 16777216))
+unfolding netBeyond
+ready-to-list = record { size = refl; long = refl; inRange = refl }

@@ -153,12 +153,25 @@ entry c k x = getD (getD c (rank k) []) x (pos 0)
 abbrev pub field : List ℤ → ℕ → ℕ → Field
 field net w x v k = entry (controlTriangle net w v) k x
 
--- worked cases: the steps add up to zero; the down triangle of cell (3, 5); a net of 4 by 3 has 108 numbers, and vertex
--- (1, 2) of it begins at number 81; in a grid of 3 by 2 with two numbers a vertex, its column and its row, vertex (2,
--- 1) begins at number 10; y of control 2 of vertex (1, 0) of a net of width 2 is its number 13
+-- ---- worked cases
+
+-- numbers that all differ, for worked cases here and in the crates above: the squares of 0 to n - 1
+abbrev pub squares : ℕ → List ℤ
+squares zero = []
+squares (suc n) = squares n ++ pos (n * n) ∷ []
+
+-- the steps add up to zero; the triangles of cell (3, 5); a net of 4 by 3 has 108 numbers, and vertex (1, 2) of it
+-- begins at number 81; in a grid of 3 by 2 with two numbers a vertex, its column and its row, vertex (2, 1) begins at
+-- number 10; of a net of width 2, vertex (0, 1) has the numbers 18 to 26, and y of its control 2 is number 22
 steps-close :
     (stepColumn one +ℤ stepColumn two +ℤ stepColumn three ≡ pos 0) × (stepRow one +ℤ stepRow two +ℤ stepRow three ≡ pos 0)
 steps-close = (refl, refl)
+
+up-corners :
+    (corner (triangleAt 3 5 false) one ≡ vertexAt 3 5)
+    × (corner (triangleAt 3 5 false) two ≡ vertexAt 4 5)
+    × (corner (triangleAt 3 5 false) three ≡ vertexAt 3 6)
+up-corners = (refl, refl, refl)
 
 down-corners :
     (corner (triangleAt 3 5 true) one ≡ vertexAt 4 5)
@@ -178,10 +191,12 @@ two-a-vertex :
 unfolding grid runs
 two-a-vertex = (refl, refl)
 
-abbrev counted : ℕ → List ℤ
-counted zero = []
-counted (suc n) = counted n ++ pos n ∷ []
+controls-of-a-vertex :
+    controlTriangle (squares 36) 2 (vertexAt 0 1)
+    ≡ (pos 324 ∷ pos 361 ∷ pos 400 ∷ []) ∷ (pos 441 ∷ pos 484 ∷ pos 529 ∷ []) ∷ (pos 576 ∷ pos 625 ∷ pos 676 ∷ []) ∷ []
+unfolding controlTriangle controlPoint
+controls-of-a-vertex = refl
 
-second-control : field (counted 18) 2 1 (vertexAt 1 0) two ≡ pos 13
+second-control : field (squares 36) 2 1 (vertexAt 0 1) two ≡ pos 484
 unfolding controlTriangle controlPoint
 second-control = refl

@@ -2,12 +2,12 @@
 use mathlib.Core.Path.{_≡_, refl}
 use mathlib.Core.Bool.{Bool, true, false, _||_, cond}
 use mathlib.Core.List.{List, [], _∷_, _++_}
-use Prim.Native.Nat.{ℕ, _+_, _-_}
+use Prim.Native.Nat.{ℕ, _-_}
 use lib.Dec.{leb, ltb, eqb}
 use lib.ListN.{length, replicate, take}
 use lib.IntN.{ℤ, pos, negsuc, natAbs}
 use Rattle.exact.specs.Filling.{over}
-use Rattle.net.specs.Net.{vertexAt, stride, numbers, start, vertexNumbers}
+use Rattle.net.specs.Net.{vertexAt, numbers, vertexNumbers, squares}
 
 -- a fault: whether it is there, and its number
 abbrev pub Fault : Type 0
@@ -72,16 +72,20 @@ unfoldable pub vertexPart : List ℤ → ℕ → ℕ → ℕ → ℕ → List �
 vertexPart net w h i j =
     cond (accepted (vertexRefusal net w h i j)) (vertexNumbers net w (vertexAt i j)) []
 
--- worked cases: document 01's examples of 1, 2 and 3, the limits that are accepted, a missing vertex of a short net, an
--- output that is refused and one that is written, and a part
+-- worked cases: document 01's examples of 1, 2 and 3, the limits that are accepted, each side too small and too large, a
+-- missing vertex of a short net, the last vertex of 3 by 2 and a row that it does not have, an output that is refused
+-- and one that is written, and a part
 examples :
     (vertexRefusal [] 1 2 0 0 ≡ 1)
     × (vertexRefusal (replicate 35 (pos 0)) 2 2 1 1 ≡ 2)
     × (vertexRefusal (replicate 35 (pos 0)) 2 2 2 1 ≡ 6)
     × (vertexRefusal (replicate (numbers 2 2) (pos 0)) 2 2 1 1 ≡ 0)
-    × (badSize 1025 1025 ≡ false)
-    × (badSize 1026 2 ≡ true)
+    × (vertexRefusal (replicate (numbers 3 2) (pos 0)) 3 2 2 1 ≡ 0)
+    × (vertexRefusal (replicate (numbers 3 2) (pos 0)) 3 2 1 2 ≡ 6)
 examples = (refl, refl, refl, refl, refl, refl)
+
+sizes : (badSize 1025 1025 ≡ false) × (badSize 1026 2 ≡ true) × (badSize 2 1026 ≡ true) × (badSize 1 2 ≡ true) × (badSize 2 1 ≡ true)
+sizes = (refl, refl, refl, refl, refl)
 
 outputs : (_≡_ {A = List ℕ} (outputAfter 5 (7 ∷ []) (1 ∷ 2 ∷ [])) (1 ∷ 2 ∷ [])) × (_≡_ {A = List ℕ} (outputAfter 0 (7 ∷ []) (1 ∷ 2 ∷ [])) (7 ∷ 2 ∷ []))
 unfolding over
@@ -91,10 +95,11 @@ limits :
     (beyond (pos 16777217) ≡ true) × (beyond (pos 16777216) ≡ false) × (beyond (negsuc 16777215) ≡ false) × (beyond (negsuc 16777216) ≡ true)
 limits = (refl, refl, refl, refl)
 
-last-part :
-    vertexPart (replicate (start 2 (vertexAt 1 1)) (pos 0) ++ replicate (stride + 1) (pos 7)) 2 2 1 1 ≡ replicate stride (pos 7)
+part-of-a-vertex :
+    vertexPart (squares (numbers 3 2)) 3 2 1 1
+    ≡ pos 1296 ∷ pos 1369 ∷ pos 1444 ∷ pos 1521 ∷ pos 1600 ∷ pos 1681 ∷ pos 1764 ∷ pos 1849 ∷ pos 1936 ∷ []
 unfolding vertexPart
-last-part = refl
+part-of-a-vertex = refl
 
 no-part : vertexPart (replicate (numbers 2 2) (pos 7)) 2 2 1 2 ≡ []
 unfolding vertexPart

@@ -172,7 +172,7 @@ module _ (file : List ℕ) (lent : List ℤ) (taken : Readable file lent) where
       ∙ ap (number (fileNumbers file)) e
       ∙ getD-runs n pointStride (λ j. firstPoint (fromPoint file j)) (pos 0) (λ j q. point-numbers (fromPoint file j)) i r k l
 
-  accepted-again : Writable after width height
+  pub accepted-again : Writable after width height
   accepted-again =
       clear-none (writeFaults after width height false) (
         good file short taken (length lent) refl .size,

@@ -14,11 +14,11 @@ use Rattle.writer.specs.Answers.{writeAnswer, writeOutput}
 use Rattle.reader.specs.Refusals.{shortFor, readRefusal}
 use Rattle.reader.specs.Answers.{readAnswer, readNet}
 
--- a net that the writer takes, given room
+-- a net that the writer accepts, given room
 abbrev pub Writable : List ℤ → ℕ → ℕ → Type 0
 Writable net w h = writeRefusal net w h false ≡ 0
 
--- a file that the reader takes into a lent net
+-- a file that the reader accepts into a lent net
 abbrev pub Readable : List ℕ → List ℤ → Type 0
 Readable file lent = readRefusal file (shortFor file (length lent)) ≡ 0
 

@@ -1,6 +1,6 @@
 -- The order of three shares: which order it is by comparisons, and that it is document 01's: from the largest to the
 -- smallest, equals in corner order.
-use mathlib.Core.Path.{_≡_, refl, ap, subst}
+use mathlib.Core.Path.{_≡_, refl, ap, subst, _∙_}
 use mathlib.Core.Bool.{Bool, true, false}
 use Prim.Native.Nat.{ℕ, _≤_, _<_}
 use native.Mathlib.Omega.{arith}
@@ -38,17 +38,19 @@ module _ (a : Index → ℕ) where
   is-321 p q r = cond-false _ _ _ (below p) (cond-false _ _ _ (below q) (cond-false _ _ _ (below r) refl))
 
   -- what the code makes of an order that it found
-  pub ordered : (o : Order) → o ≡ orderOf a →
-      InOrder (orderOf a) a (rank (cornerP o)) (rank (cornerQ o)) (rank (cornerT o)) (aheadOf o) (gapA o a) (gapB o a) (gapG o a)
-  ordered o e =
+  pub ordered : (o : Order) → o ≡ orderOf a → {P Q T A B G : ℕ} {ahead : Bool} →
+      (P ≡ rank (cornerP o)) × (Q ≡ rank (cornerQ o)) × (T ≡ rank (cornerT o)) × (ahead ≡ aheadOf o)
+      × (A ≡ gapA o a) × (B ≡ gapB o a) × (G ≡ gapG o a) →
+      InOrder (orderOf a) a P Q T ahead A B G
+  ordered o e f =
       record {
-        first-corner = ap (λ (k : Order). rank (cornerP k)) e;
-        second-corner = ap (λ (k : Order). rank (cornerQ k)) e;
-        last-corner = ap (λ (k : Order). rank (cornerT k)) e;
-        direction = ap aheadOf e;
-        first = ap (λ (k : Order). gapA k a) e;
-        second = ap (λ (k : Order). gapB k a) e;
-        last = ap (λ (k : Order). gapG k a) e;
+        first-corner = f .0 ∙ ap (λ (k : Order). rank (cornerP k)) e;
+        second-corner = f .1 ∙ ap (λ (k : Order). rank (cornerQ k)) e;
+        last-corner = f .2 ∙ ap (λ (k : Order). rank (cornerT k)) e;
+        direction = f .3 ∙ ap aheadOf e;
+        first = f .4 ∙ ap (λ (k : Order). gapA k a) e;
+        second = f .5 ∙ ap (λ (k : Order). gapB k a) e;
+        last = f .6 ∙ ap (λ (k : Order). gapG k a) e;
       }
 
   -- 'a ≥ b ≥ d, equals in corner order'

@@ -106,11 +106,26 @@ LiesBy true = LiesDown
 abbrev pub LiesIn : ℕ → ℕ → ℕ → Triangle → Type 0
 LiesIn D p q t = LiesBy (t .down) D p q (t .column) (t .row)
 
--- worked cases: the last place of a side of two lies in cell 0; place (700, 600) of a net of 2 by 2 lies in the down
--- triangle, with shares 424, 324 and 276; equal shares stay in corner order; place (1024, 0) lies in the up and in the
--- down triangle of cell (0, 0), whose corner it is
+-- worked cases: the last place of a side of two lies in cell 0, and the last place of 2 by 3 is of the grid; place (1100,
+-- 700) of a net of 3 by 2 lies in the up triangle of cell (1, 0), place (700, 600) of a net of 2 by 2 in the down
+-- triangle, and with f + g = 1024 the up triangle is chosen; A, B and G of two orders; equal shares stay in corner order;
+-- place (1024, 0) lies in the up and in the down triangle of cell (0, 0), whose corner it is, and place (1024, 1024) in
+-- six triangles
 last-cell : (cell 1024 2 1024 ≡ 0) × (rest 1024 2 1024 ≡ 1024) × (cell 1024 3 1024 ≡ 1)
 last-cell = (refl, refl, refl)
+
+last-place : OnGrid 1024 2 3 1024 2048
+last-place = (lit≤ tt, lit≤ tt)
+
+in-up :
+    (chosen 1024 3 2 1100 700 ≡ triangleAt 1 0 false)
+    × (share 1024 3 2 1100 700 one ≡ 248)
+    × (share 1024 3 2 1100 700 two ≡ 76)
+    × (share 1024 3 2 1100 700 three ≡ 700)
+in-up = (refl, refl, refl, refl)
+
+on-the-diagonal : chosen 1024 2 2 512 512 ≡ triangleAt 0 0 false
+on-the-diagonal = refl
 
 in-down :
     (chosen 1024 2 2 700 600 ≡ triangleAt 0 0 true)
@@ -122,5 +137,35 @@ in-down = (refl, refl, refl, refl)
 equal-shares : (orderOf (λ k. 3) ≡ o123) × (orderOf (upShare 10 4 4) ≡ o231) × (orderOf (upShare 10 2 4) ≡ o132)
 equal-shares = (refl, refl, refl)
 
+gaps-in-down :
+    (orderOf (share 1024 2 2 700 600) ≡ o123)
+    × (gapA o123 (share 1024 2 2 700 600) ≡ 100)
+    × (gapB o123 (share 1024 2 2 700 600) ≡ 96)
+    × (gapG o123 (share 1024 2 2 700 600) ≡ 828)
+gaps-in-down = (refl, refl, refl, refl)
+
+gaps-in-up :
+    (orderOf (share 1024 3 2 1100 700) ≡ o312)
+    × (gapA o312 (share 1024 3 2 1100 700) ≡ 452)
+    × (gapB o312 (share 1024 3 2 1100 700) ≡ 344)
+    × (gapG o312 (share 1024 3 2 1100 700) ≡ 228)
+gaps-in-up = (refl, refl, refl, refl)
+
 two-triangles : LiesIn 1024 1024 0 (triangleAt 0 0 false) × LiesIn 1024 1024 0 (triangleAt 0 0 true)
 two-triangles = ((lit≤ tt, lit≤ tt, lit≤ tt), (lit≤ tt, lit≤ tt, lit≤ tt))
+
+six-triangles :
+    LiesIn 1024 1024 1024 (triangleAt 1 1 false)
+    × LiesIn 1024 1024 1024 (triangleAt 0 1 false)
+    × LiesIn 1024 1024 1024 (triangleAt 1 0 false)
+    × LiesIn 1024 1024 1024 (triangleAt 0 0 true)
+    × LiesIn 1024 1024 1024 (triangleAt 0 1 true)
+    × LiesIn 1024 1024 1024 (triangleAt 1 0 true)
+six-triangles = (
+  (lit≤ tt, lit≤ tt, lit≤ tt),
+  (lit≤ tt, lit≤ tt, lit≤ tt),
+  (lit≤ tt, lit≤ tt, lit≤ tt),
+  (lit≤ tt, lit≤ tt, lit≤ tt),
+  (lit≤ tt, lit≤ tt, lit≤ tt),
+  (lit≤ tt, lit≤ tt, lit≤ tt),
+)

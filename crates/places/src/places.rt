@@ -3,7 +3,7 @@ use net::bad_size;
 use net::short_net;
 ghost use mathlib.Core.Path.{_≡_};
 ghost use mathlib.Core.Bool.{false};
-ghost use Prim.Native.Nat.{_≤_};
+ghost use Prim.Native.Nat.{_-_, _*_, _≤_};
 ghost use Rattle.net.specs.Refusals.{badSize};
 ghost use Rattle.places.specs.Places.{cell, orderOf};
 ghost use Rattle.places.specs.Refusals.{noPlace};
@@ -96,6 +96,22 @@ pub fn place_refusal(net: &[i32], w: usize, h: usize, p: usize, q: usize) -> u32
     0
 }
 
+// Shares a ≥ b ≥ d of the corners p, q, t, with document 01's A, B and G. For `put_in_order`.
+fn with_gaps(p: usize, q: usize, t: usize, ahead: bool, a: usize, b: usize, d: usize) -> Ordered
+    requires { ⌜ (a ≤ 1024) × (b ≤ a) × (d ≤ b) ⌝ }
+    ensures { λ r. ⌜ (r .p ≡ p) × (r .q ≡ q) × (r .t ≡ t) × (r .ahead ≡ ahead) × (r .a ≡ a - b) × (r .b ≡ 2 * (b - d)) × (r .g ≡ 3 * d) ⌝ }
+{
+    Ordered {
+        p,
+        q,
+        t,
+        ahead,
+        a: a - b,
+        b: 2 * (b - d),
+        g: 3 * d,
+    }
+}
+
 // The shares of corners 1, 2, 3, put in order. For `surface`.
 pub fn put_in_order(a: usize, b: usize, d: usize) -> Ordered
     requires { ⌜ (a ≤ 1024) × (b ≤ 1024) × (d ≤ 1024) ⌝ }
@@ -103,66 +119,18 @@ pub fn put_in_order(a: usize, b: usize, d: usize) -> Ordered
 {
     if b <= a {
         if d <= b {
-            return Ordered {
-                p: 0,
-                q: 1,
-                t: 2,
-                ahead: true,
-                a: a - b,
-                b: 2 * (b - d),
-                g: 3 * d,
-            };
+            return with_gaps(0, 1, 2, true, a, b, d);
         }
         if d <= a {
-            return Ordered {
-                p: 0,
-                q: 2,
-                t: 1,
-                ahead: false,
-                a: a - d,
-                b: 2 * (d - b),
-                g: 3 * b,
-            };
+            return with_gaps(0, 2, 1, false, a, d, b);
         }
-        return Ordered {
-            p: 2,
-            q: 0,
-            t: 1,
-            ahead: true,
-            a: d - a,
-            b: 2 * (a - b),
-            g: 3 * b,
-        };
+        return with_gaps(2, 0, 1, true, d, a, b);
     }
     if d <= a {
-        return Ordered {
-            p: 1,
-            q: 0,
-            t: 2,
-            ahead: false,
-            a: b - a,
-            b: 2 * (a - d),
-            g: 3 * d,
-        };
+        return with_gaps(1, 0, 2, false, b, a, d);
     }
     if d <= b {
-        return Ordered {
-            p: 1,
-            q: 2,
-            t: 0,
-            ahead: true,
-            a: b - d,
-            b: 2 * (d - a),
-            g: 3 * a,
-        };
+        return with_gaps(1, 2, 0, true, b, d, a);
     }
-    Ordered {
-        p: 2,
-        q: 1,
-        t: 0,
-        ahead: false,
-        a: d - b,
-        b: 2 * (b - a),
-        g: 3 * a,
-    }
+    with_gaps(2, 1, 0, false, d, b, a)
 }

@@ -11,7 +11,7 @@ use borrow.Author.Tests.{ltb-false}
 use Rattle.exact.specs.Filling.{over, runs}
 use Rattle.net.specs.Net.{numbers}
 use Rattle.net.specs.Refusals.{firstFault, badSide, badSize}
-use Rattle.net.proofs.Faults.{Clear, Numbered, none-clear, clear-parts, clear-run, fault-after, numbered-append, numbered-runs, answered, accepted-answer, refused-answer, when-accepted, when-refused, or-no, or-none}
+use Rattle.net.proofs.Faults.{Clear, Numbered, none-clear, clear-parts, clear-run, fault-after, numbered-append, numbered-runs, answered, not-accepted, accepted-answer, refused-answer, when-accepted, when-refused, or-no, or-none}
 use Rattle.words.specs.NetFile.{points, fileWidth, fileHeight, fileNumbers, fromPoint, headSize, pointSize}
 use Rattle.reader.specs.Refusals.{pointFaults, endFaults, headFaults, bodyFaults, readFaults, readRefusal, shortFor}
 use Rattle.reader.specs.Answers.{headAnswer, readAnswerWith, readNetWith}
@@ -76,7 +76,7 @@ points-there file (suc n) h k =
 
 -- ---- what the reader answers, and what it leaves in the lent net
 
-module _ (file : List ℕ) (short : Bool) (net : List ℤ) where
+module _ (file : List ℕ) (short : Bool) where
   abbrev body : ℕ
   body = points (fileWidth file) (fileHeight file)
 
@@ -90,31 +90,28 @@ module _ (file : List ℕ) (short : Bool) (net : List ℤ) where
       let q = answered (firstFault (headFaults file short)) sides e in
       (none-clear (headFaults file short) (head-numbered file short) (q .0), q .1)
 
-  file-refused : {n : ℕ} → n ≡ readRefusal file short → (n ≡ 0 → ⊥) →
-      (_≡_ {A = ℕ × List ℕ} (n, []) (readAnswerWith file short)) × (net ≡ readNetWith file short net)
-  file-refused e there = (
-    refused-answer (readRefusal file short) sides e there,
-    when-refused (readRefusal file short) (over (fileNumbers file) net) net (λ z. there (e ∙ z)),
-  )
-
   -- or refused
-  pub head-refused : {n : ℕ} → _≡_ {A = ℕ × List ℕ} (n, []) (headAnswer file short) →
-      (_≡_ {A = ℕ × List ℕ} (n, []) (readAnswerWith file short)) × (net ≡ readNetWith file short net)
+  pub head-refused : {n : ℕ} → _≡_ {A = ℕ × List ℕ} (n, []) (headAnswer file short) → _≡_ {A = ℕ × List ℕ} (n, []) (readAnswerWith file short)
   head-refused e =
       let q = refused (headFaults file short) (bodyFaults file body) (fileWidth file) (fileHeight file ∷ []) e in
-      file-refused (q .0) (q .1)
+      refused-answer (readRefusal file short) sides (q .0) (q .1)
 
   -- the rest was refused
   pub body-refused : {n : ℕ} → Clear (headFaults file short) → n ≡ firstFault (bodyFaults file body) → (n ≡ 0 → ⊥) →
-      (_≡_ {A = ℕ × List ℕ} (n, []) (readAnswerWith file short)) × (net ≡ readNetWith file short net)
-  body-refused k e there = file-refused (e ∙ fault-after (headFaults file short) (bodyFaults file body) k) there
+      _≡_ {A = ℕ × List ℕ} (n, []) (readAnswerWith file short)
+  body-refused k e there =
+      refused-answer (readRefusal file short) sides (e ∙ fault-after (headFaults file short) (bodyFaults file body) k) there
 
   -- or there is no fault
-  pub taken : {l : List ℤ} {values : List ℕ} → Clear (headFaults file short) → firstFault (bodyFaults file body) ≡ 0 → values ≡ sides →
-      l ≡ over (fileNumbers file) net →
-      (_≡_ {A = ℕ × List ℕ} (0, values) (readAnswerWith file short)) × (l ≡ readNetWith file short net)
-  taken {l} {values} k z v e =
-      let none : readRefusal file short ≡ 0 = sym (fault-after (headFaults file short) (bodyFaults file body) k) ∙ z in (
-        accepted-answer (readRefusal file short) sides none v,
-        e ∙ when-accepted (readRefusal file short) (over (fileNumbers file) net) net none,
-      )
+  pub file-accepted : {values : List ℕ} → Clear (headFaults file short) → firstFault (bodyFaults file body) ≡ 0 → values ≡ sides →
+      _≡_ {A = ℕ × List ℕ} (0, values) (readAnswerWith file short)
+  file-accepted k z v =
+      accepted-answer (readRefusal file short) sides (sym (fault-after (headFaults file short) (bodyFaults file body) k) ∙ z) v
+
+  -- what the answer leaves in the lent net
+  pub net-kept : {n : ℕ} (net : List ℤ) → _≡_ {A = ℕ × List ℕ} (n, []) (readAnswerWith file short) → net ≡ readNetWith file short net
+  net-kept net e =
+      when-refused (readRefusal file short) (over (fileNumbers file) net) net (not-accepted (readRefusal file short) sides (lit< tt) e)
+
+  pub net-read : {l : List ℤ} (net : List ℤ) → readRefusal file short ≡ 0 → l ≡ over (fileNumbers file) net → l ≡ readNetWith file short net
+  net-read net none e = e ∙ when-accepted (readRefusal file short) (over (fileNumbers file) net) net none

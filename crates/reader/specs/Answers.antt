@@ -1,12 +1,14 @@
 -- Document 01's number and values of each case of the answer, and what reading answers and leaves in the lent net.
 use mathlib.Core.Path.{_≡_, refl}
 use mathlib.Core.Bool.{Bool}
-use mathlib.Core.List.{List, [], _∷_}
+use mathlib.Core.List.{List, [], _∷_, _++_}
 use Prim.Native.Nat.{ℕ}
-use lib.IntN.{ℤ}
-use lib.ListN.{length}
+use lib.IntN.{ℤ, pos}
+use lib.ListN.{length, replicate}
+use Rattle.exact.specs.Filling.{over, runs}
+use Rattle.net.specs.Net.{squares}
 use Rattle.net.specs.Refusals.{firstFault, outputAfter}
-use Rattle.words.specs.NetFile.{fileWidth, fileHeight, fileNumbers}
+use Rattle.words.specs.NetFile.{wordBytes, firstWord, pointBytes, netFile, fileWidth, fileHeight, firstPoint, fileNumbers}
 use Rattle.words.specs.Answers.{answer}
 use Rattle.reader.specs.Refusals.{headFaults, readRefusal, shortFor}
 use Rattle.reader.specs.declared.answers.ReadAnswer.{ReadAnswer}
@@ -35,6 +37,20 @@ readAnswer file net = readAnswerWith file (shortFor file (length net))
 abbrev pub readNet : List ℕ → List ℤ → List ℤ
 readNet file net = readNetWith file (shortFor file (length net)) net
 
--- worked cases: outcomes of answers, accepted and refused
+-- worked cases: outcomes of answers; the file of the net of 2 by 3 whose numbers are the squares, read with room for a
+-- number more, and refused
 outcomes : (readOutcome (found.Size 2 3) ≡ (0, 2 ∷ 3 ∷ [])) × (readOutcome (found.Refused 5) ≡ (5, []))
 outcomes = (refl, refl)
+
+abbrev file23 : List ℕ
+file23 = netFile (squares 54) 2 3
+
+answers : (readAnswer file23 (replicate 55 (pos 7)) ≡ (0, 2 ∷ 3 ∷ [])) × (readAnswer file23 (replicate 53 (pos 7)) ≡ (5, []))
+unfolding wordBytes firstWord pointBytes netFile runs
+answers = (refl, refl)
+
+nets :
+    (readNet file23 (replicate 55 (pos 7)) ≡ squares 54 ++ pos 7 ∷ [])
+    × (readNet file23 (replicate 53 (pos 7)) ≡ replicate 53 (pos 7))
+unfolding wordBytes firstWord pointBytes netFile firstPoint runs over
+nets = (refl, refl)

@@ -6,5 +6,6 @@ mod reading;
 pub use answers::ReadAnswer;
 pub use reading::read;
 
-// For the crates above, whose callers lend one output more: no preconditions either.
+// For the crates above, whose callers lend one output more or have more to refuse: no preconditions either.
+pub use reading::check_file;
 pub use reading::read_with;

@@ -203,21 +203,34 @@ fn load_points(file: &[u8], n: usize, net: &mut [i32])
     }
 }
 
+// What `read_with` answers for a lent net of `room` numbers, without one: for a caller who has more to refuse before
+// anything is written.
+pub fn check_file(file: &[u8], short: bool, room: usize) -> ReadAnswer
+    ensures { λ r. ⌜ readOutcome r ≡ readAnswerWith (now (file .entry)) (short || shortFor (now (file .entry)) room) ⌝ }
+{
+    let head = parse_head(file, short, room);
+    match head {
+        ReadAnswer::Size(w, h) => {
+            let refusal = body_refusal(file, 3 * (w * h));
+            if refusal != 0 {
+                return ReadAnswer::Refused(refusal);
+            }
+            ReadAnswer::Size(w, h)
+        }
+        ReadAnswer::Refused(n) => ReadAnswer::Refused(n),
+    }
+}
+
 // The same as `read`, for the crates above: `short` is whether another output that they were lent is too short, which
 // is 5 too.
 pub fn read_with(file: &[u8], short: bool, net: &mut [i32]) -> ReadAnswer
     ensures { λ r. ⌜ readOutcome r ≡ readAnswerWith (now (file .entry)) (short || shortFor (now (file .entry)) (length (now (net .entry)))) ⌝ }
     ensures { λ r. ⌜ now (net .exit) ≡ readNetWith (now (file .entry)) (short || shortFor (now (file .entry)) (length (now (net .entry)))) (now (net .entry)) ⌝ }
 {
-    let head = parse_head(file, short, net.len());
-    match head {
+    let found = check_file(file, short, net.len());
+    match found {
         ReadAnswer::Size(w, h) => {
-            let n = 3 * (w * h);
-            let refusal = body_refusal(file, n);
-            if refusal != 0 {
-                return ReadAnswer::Refused(refusal);
-            }
-            load_points(file, n, net);
+            load_points(file, 3 * (w * h), net);
             ReadAnswer::Size(w, h)
         }
         ReadAnswer::Refused(n) => ReadAnswer::Refused(n),

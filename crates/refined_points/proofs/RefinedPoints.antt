@@ -163,12 +163,12 @@ refined-points net w h k out scratch e p q place =
     (claimed net w h k out t p q place)
 
 -- of the answer of the call that does both
-pub answer-claimed : (net : List ℤ) (w h k p q : ℕ) (out scratch : List ℤ) {outcome : ℕ × List ℤ} → refusalAt net w h k p q false out scratch ≡ 0 →
-    outcome ≡ refinedPointAnswer net w h k p q false out scratch → Claimed net w h k p q outcome
-answer-claimed net w h k p q out scratch none e =
-    let t = point-accepted net w h k p q false (length out) (length scratch) none in
+pub answer-claimed : (net : List ℤ) (w h k p q : ℕ) (other : Bool) (out scratch : List ℤ) {outcome : ℕ × List ℤ} → outcome ≡ refinedPointAnswer net w h k p q other out scratch →
+    refusalAt net w h k p q other out scratch ≡ 0 → Claimed net w h k p q outcome
+answer-claimed net w h k p q other out scratch e none =
+    let t = point-accepted net w h k p q other (length out) (length scratch) none in
     subst (Claimed net w h k p q)
-    (accepted-answer (refusalAt net w h k p q false out scratch) (refinedSurfacePoint net w h k p q) none
+    (accepted-answer (refusalAt net w h k p q other out scratch) (refinedSurfacePoint net w h k p q) none
     (point-of-refined net w h k out (t .0) p q (t .1))
     ∙ sym e)
     (claimed net w h k out (t .0) p q (t .1))

@@ -1,13 +1,18 @@
 -- What refining and then a surface point answers.
-use mathlib.Core.Bool.{Bool, cond, _||_}
-use mathlib.Core.List.{List, []}
+use mathlib.Core.Path.{_≡_, refl}
+use mathlib.Core.Bool.{Bool, true, false, cond, _||_}
+use mathlib.Core.List.{List, [], _∷_}
 use Prim.Native.Nat.{ℕ}
-use lib.IntN.{ℤ}
-use lib.ListN.{length}
-use Rattle.net.specs.Refusals.{accepted}
-use Rattle.surface.specs.SurfacePoint.{surfacePoint}
-use Rattle.subdivision.specs.Refinement.{sideAfter}
-use Rattle.steps.specs.RefinedNet.{refinedNet}
+use lib.IntN.{ℤ, pos}
+use lib.ListN.{length, replicate}
+use Rattle.exact.specs.Rounding.{rounded, floorQuotient}
+use Rattle.exact.specs.Filling.{runs}
+use Rattle.net.specs.Net.{controlPoint, controlTriangle, grid, squares}
+use Rattle.net.specs.Refusals.{accepted, netBeyond}
+use Rattle.spline.specs.Spline.{spline}
+use Rattle.surface.specs.SurfacePoint.{coordinate, surfacePoint}
+use Rattle.subdivision.specs.Refinement.{sideAfter, exactRefinement, refinement}
+use Rattle.steps.specs.RefinedNet.{stored, refinedNet}
 use Rattle.refine.specs.Refusals.{tooShort}
 use Rattle.refined_points.specs.Refusals.{refinedPointRefusal}
 
@@ -24,3 +29,15 @@ refinedPointAnswer net w h k p q other out scratch = (
   refusalAt net w h k p q other out scratch,
   cond (accepted (refusalAt net w h k p q other out scratch)) (refinedSurfacePoint net w h k p q) [],
 )
+
+-- worked cases: of the net of 2 by 3 whose numbers are the squares, after one step: a point, another output that is too
+-- short, and an output that is
+abbrev answerOf : Bool → ℕ → ℕ × List ℤ
+answerOf other room = refinedPointAnswer (squares 54) 2 3 1 1500 2500 other (replicate room (pos 0)) []
+
+answers :
+    (answerOf false 135 ≡ (0, pos 989 ∷ pos 1053 ∷ pos 1118 ∷ []))
+    × (answerOf true 135 ≡ (5, []))
+    × (answerOf false 134 ≡ (5, []))
+unfolding netBeyond coordinate spline refinedNet stored grid runs refinement exactRefinement rounded floorQuotient controlTriangle controlPoint
+answers = (refl, refl, refl)

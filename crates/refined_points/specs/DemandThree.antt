@@ -23,7 +23,7 @@ pub record Claimed (net : List ℤ) (w h k p q : ℕ) (outcome : ℕ × List ℤ
   pub near : (x : ℕ) → x < 3 → NearSpline (field net w x) w h k p q (number (outcome .1) x)
   pub within : (x : ℕ) → x < 3 → (t : Triangle) → OfNet w h t → LiesIn (fineEdge k) p q t → WithinControls (field net w x) t (number (outcome .1) x)
 
--- demand 3: of every net, size, k, output and scratch that refining takes, at every place of the refined grid, of the
+-- demand 3: of every net, size, k, output and scratch that refining accepts, at every place of the refined grid, of the
 -- surface point on what refining left in the output, whatever stood in the output and the scratch before and stands
 -- after the result
 abbrev pub RefinedPoints : Type 0

@@ -1,4 +1,7 @@
--- The definitions that contracts cite: the refusals, what the call answers, and demand 3 of the calls.
+-- The definitions that contracts cite: the refusals, what the calls answer, demand 3 of them, and
+-- their contract.
 pub mod Refusals
 pub mod Answers
 pub mod DemandThree
+pub mod NotClaimed
+pub mod Contract

@@ -7,15 +7,11 @@ use surface::PointAnswer;
 use surface::surface_point;
 ghost use mathlib.Core.Path.{_≡_};
 ghost use mathlib.Core.Bool.{false, _||_};
-ghost use Rattle.net.specs.Refusals.{badSize, outputAfter};
+ghost use Rattle.net.specs.Refusals.{badSize};
 ghost use Rattle.surface.specs.Answers.{pointOutcome};
-ghost use Rattle.steps.specs.RefinedNet.{refinedNet};
-ghost use Rattle.steps.specs.Steps.{UnchangedFrom};
 ghost use Rattle.refine.specs.Refusals.{tooDeep, tooShort};
-ghost use Rattle.refine.specs.Answers.{freeScratch};
 ghost use Rattle.refined_points.specs.Refusals.{offGrid, refinedPointRefusal};
-ghost use Rattle.refined_points.specs.Answers.{refusalAt, refinedPointAnswer};
-ghost use Rattle.refined_points.specs.DemandThree.{Claimed};
+ghost use Rattle.refined_points.specs.Contract.{RefinedPointContract};
 
 // Whether place (p, q) is off the refined grid.
 fn off_grid(w: usize, h: usize, k: usize, p: usize, q: usize) -> bool
@@ -53,7 +49,7 @@ fn refusal_at(
 }
 
 // The same as `refined_point`, for the crates above: `short` is whether another output that they were lent is too
-// short, which is 5 too.
+// short, which is 5 too. Every call that refines and answers a point goes through this one, so demand 3 is stated here.
 pub fn refined_point_with(
     net: &[i32],
     w: usize,
@@ -65,9 +61,7 @@ pub fn refined_point_with(
     out: &mut [i32],
     scratch: &mut [i32],
 ) -> PointAnswer
-    ensures { λ r. ⌜ pointOutcome r ≡ refinedPointAnswer (now (net .entry)) w h k p q short (now (out .entry)) (now (scratch .entry)) ⌝ }
-    ensures { λ r. ⌜ now (out .exit) ≡ outputAfter (refusalAt (now (net .entry)) w h k p q short (now (out .entry)) (now (scratch .entry))) (refinedNet (now (net .entry)) w h k) (now (out .entry)) ⌝ }
-    ensures { λ r. ⌜ UnchangedFrom (freeScratch (refusalAt (now (net .entry)) w h k p q short (now (out .entry)) (now (scratch .entry))) k w h) (now (scratch .entry)) (now (scratch .exit)) ⌝ }
+    ensures { λ r. ⌜ RefinedPointContract (now (net .entry)) w h k p q short (now (out .entry)) (now (scratch .entry)) (pointOutcome r) (now (out .exit)) (now (scratch .exit)) ⌝ }
 {
     let refusal = refusal_at(net, w, h, k, p, q, short, out.len(), scratch.len());
     if refusal != 0 {
@@ -80,8 +74,8 @@ pub fn refined_point_with(
 }
 
 // The net refined by k steps over the front of `out`, and the surface point at place (p, q) of the refined grid; or the
-// first of 1, 4, 6, 2, 5, 3. Its last promise is demand 3: where nothing is refused, the answer is a point near the
-// exact spline of the starting net and within its control values.
+// first of 1, 4, 6, 2, 5, 3. With demand 3: where nothing is refused, the answer is a point near the exact spline of
+// the starting net and within its control values.
 pub fn refined_point(
     net: &[i32],
     w: usize,
@@ -92,10 +86,7 @@ pub fn refined_point(
     out: &mut [i32],
     scratch: &mut [i32],
 ) -> PointAnswer
-    ensures { λ r. ⌜ pointOutcome r ≡ refinedPointAnswer (now (net .entry)) w h k p q false (now (out .entry)) (now (scratch .entry)) ⌝ }
-    ensures { λ r. ⌜ now (out .exit) ≡ outputAfter (refusalAt (now (net .entry)) w h k p q false (now (out .entry)) (now (scratch .entry))) (refinedNet (now (net .entry)) w h k) (now (out .entry)) ⌝ }
-    ensures { λ r. ⌜ UnchangedFrom (freeScratch (refusalAt (now (net .entry)) w h k p q false (now (out .entry)) (now (scratch .entry))) k w h) (now (scratch .entry)) (now (scratch .exit)) ⌝ }
-    ensures { λ r. ⌜ (refusalAt (now (net .entry)) w h k p q false (now (out .entry)) (now (scratch .entry)) ≡ 0 → Claimed (now (net .entry)) w h k p q (pointOutcome r)) ⌝ }
+    ensures { λ r. ⌜ RefinedPointContract (now (net .entry)) w h k p q false (now (out .entry)) (now (scratch .entry)) (pointOutcome r) (now (out .exit)) (now (scratch .exit)) ⌝ }
 {
     refined_point_with(net, w, h, k, p, q, false, out, scratch)
 }

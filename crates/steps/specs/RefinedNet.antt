@@ -1,14 +1,14 @@
 -- Document 01, "One refinement", of stored nets: what refining writes.
 use mathlib.Core.Path.{_≡_, refl}
 use mathlib.Core.Bool.{cond}
-use mathlib.Core.List.{List, [], _∷_, _++_}
+use mathlib.Core.List.{List, [], _∷_, _++_, map}
 use Prim.Native.Nat.{ℕ, _-_, _*_}
 use lib.Dec.{ltb}
 use lib.IntN.{ℤ, pos}
 use lib.ListN.{take, drop, replicate}
 use Rattle.exact.specs.Rounding.{rounded, floorQuotient}
 use Rattle.exact.specs.Filling.{runs}
-use Rattle.net.specs.Net.{gridRow, grid, Index, one, two, three, Vertex, vertexAt, Field, controlPoint, controlTriangle, numbers, field, stride}
+use Rattle.net.specs.Net.{gridRow, grid, Index, one, two, three, Vertex, vertexAt, Field, controlPoint, controlTriangle, numbers, field, stride, squares}
 use Rattle.subdivision.specs.Refinement.{sideAfter, exactRefinement, refinement, refinements}
 
 -- a field for each coordinate, 0, 1, 2 for x, y, z
@@ -54,8 +54,9 @@ scratchNeed k w h = cond (ltb k 2) 0 (numbersAfter (k - 1) w h)
 
 -- worked cases: of a net of 2 by 2 whose one number that is not 0 is z of c1 of its vertex (0, 0), document 01's 120:
 -- as it is stored, no step copies it, and after one step z of the controls of vertices (0, 0), (1, 0) and (0, 1) are
--- 80, 20, 20, then 0, 60, 60, then 30, 0, 60; 17 by 17 after six steps has 9,455,625 numbers, and one step needs no
--- scratch
+-- 80, 20, 20, then 0, 60, 60, then 30, 0, 60; of the net of 2 by 3 whose numbers are the squares, no step and, after one
+-- step, the records of vertices (1, 3) and (2, 4) of the 3 by 5; 17 by 17 after six steps has 9,455,625 numbers, 2 by 3
+-- after one has 135, and one step needs no scratch
 abbrev raised : List ℤ
 raised = pos 0 ∷ pos 0 ∷ pos 120 ∷ replicate (numbers 2 2 - 3) (pos 0)
 
@@ -74,5 +75,15 @@ refined-once :
 unfolding refinedNet refinedControls stored grid runs refinement exactRefinement rounded floorQuotient controlTriangle controlPoint
 refined-once = (refl, refl, refl, refl)
 
-sizes : (numbersAfter 6 17 17 ≡ 9455625) × (scratchNeed 6 17 17 ≡ 2368521) × (scratchNeed 1 17 17 ≡ 0) × (scratchNeed 2 2 2 ≡ 81)
-sizes = (refl, refl, refl, refl)
+abbrev recordAfter : ℕ → List ℤ
+recordAfter n = take stride (drop (stride * n) (refinedNet (squares 54) 2 3 1))
+
+of-squares :
+    (refinedNet (squares 54) 2 3 0 ≡ squares 54)
+    × (recordAfter 10 ≡ map pos (956 ∷ 1019 ∷ 1083 ∷ 1530 ∷ 1609 ∷ 1690 ∷ 1163 ∷ 1232 ∷ 1302 ∷ []))
+    × (recordAfter 14 ≡ map pos (2168 ∷ 2262 ∷ 2358 ∷ 2307 ∷ 2404 ∷ 2503 ∷ 2456 ∷ 2556 ∷ 2658 ∷ []))
+unfolding refinedNet stored grid runs refinement exactRefinement rounded floorQuotient controlTriangle controlPoint
+of-squares = (refl, refl, refl)
+
+sizes : (numbersAfter 6 17 17 ≡ 9455625) × (numbersAfter 1 2 3 ≡ 135) × (scratchNeed 6 17 17 ≡ 2368521) × (scratchNeed 1 17 17 ≡ 0) × (scratchNeed 2 2 2 ≡ 81)
+sizes = (refl, refl, refl, refl, refl)

@@ -2,11 +2,12 @@
 -- rounded, and k steps.
 use mathlib.Core.Path.{_≡_, refl}
 use mathlib.Core.Bool.{Bool, true, false, cond}
+use mathlib.Core.List.{List, [], _∷_}
 use Prim.Native.Nat.{ℕ, zero, suc, _+_, _-_, _*_, _/_}
 use lib.Dec.{ltb}
 use lib.IntN.{ℤ, pos, _+ℤ_, _*ℤ_}
 use Rattle.exact.specs.Rounding.{rounded, floorQuotient}
-use Rattle.net.specs.Net.{Index, one, two, three, next, previous, Vertex, vertexAt, Field, same}
+use Rattle.net.specs.Net.{Index, one, two, three, next, previous, Vertex, vertexAt, Field, same, controlPoint, controlTriangle, field, squares}
 
 -- 'New size (2w-1) by (2h-1)': a side after one refinement, and after k
 abbrev pub refinedSide : ℕ → ℕ
@@ -92,7 +93,8 @@ exactRefinements = steps exactRefinement
 
 -- worked cases: 17 by 17 refined six times is 1,025 by 1,025; vertex (5, 3) of a refined net halves the edge along e2
 -- from (3, 1) to (2, 2), and vertex (4, 3) the edge along e3 from (2, 2) to (2, 1); of a net that is 1 at control 1 of
--- its vertex (0, 0) and 0 elsewhere, times 12 and times 6
+-- its vertex (0, 0) and 0 elsewhere, times 12 and times 6; of the net of 2 by 2 whose numbers are the squares, x of the
+-- controls of a vertex of each kind, times 12 and rounded
 six-steps : sideAfter 6 17 ≡ 1025
 six-steps = refl
 
@@ -118,3 +120,18 @@ of-one-control :
     × (refinement (single 6) (vertexAt 0 1) one ≡ pos 2)
 unfolding exactRefinement refinement rounded floorQuotient
 of-one-control = (refl, refl, refl, refl, refl)
+
+abbrev controls : (Index → ℤ) → List ℤ
+controls c = c one ∷ c two ∷ c three ∷ []
+
+abbrev exactAt : ℕ → ℕ → List ℤ
+exactAt i j = controls (exactRefinement (field (squares 36) 2 0) (vertexAt i j))
+
+of-each-kind :
+    (exactAt 2 0 ≡ pos 1386 ∷ pos 1764 ∷ pos 2250 ∷ [])
+    × (exactAt 1 0 ≡ pos 2214 ∷ pos 459 ∷ pos 783 ∷ [])
+    × (exactAt 1 1 ≡ pos 2079 ∷ pos 5400 ∷ pos 3267 ∷ [])
+    × (exactAt 0 1 ≡ pos 4428 ∷ pos 4806 ∷ pos 54 ∷ [])
+    × (controls (refinement (field (squares 36) 2 0) (vertexAt 1 1)) ≡ pos 173 ∷ pos 450 ∷ pos 272 ∷ [])
+unfolding exactRefinement refinement rounded floorQuotient controlTriangle controlPoint
+of-each-kind = (refl, refl, refl, refl, refl)

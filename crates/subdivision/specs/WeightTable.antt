@@ -92,10 +92,25 @@ weights =
 pub weights-pass : passes weights ≡ true
 weights-pass = refl
 
--- worked cases: control 2 on an edge along e1 is (2a1 + a2 + b2)/4; a table whose kept row looks at the neighbour does
--- not pass
+-- worked cases: control 2 on an edge along e1 is (2a1 + a2 + b2)/4; another table passes; one whose kept row looks at the
+-- neighbour does not, nor does one with a row that sums to 11, one with a row of five weights, one with a fourth control
+-- and one without the edges along e3
 edge-row : weightsAt weights (kindNumber (along one)) two ≡ map pos (row6 6 3 0 0 3 0)
 edge-row = refl
 
 neighbour-row : passes ((row6 7 2 2 1 0 0 ∷ row6 2 8 2 0 0 0 ∷ row6 2 2 8 0 0 0 ∷ []) ∷ drop 1 weights) ≡ false
 neighbour-row = refl
+
+abbrev soft : List (List ℕ)
+soft = row6 6 3 3 0 0 0 ∷ row6 3 6 3 0 0 0 ∷ row6 3 3 6 0 0 0 ∷ []
+
+abbrev mixed : List (List ℕ)
+mixed = row6 1 2 3 3 2 1 ∷ row6 2 2 2 2 2 2 ∷ row6 0 0 12 0 0 0 ∷ []
+
+tested :
+    (passes (soft ∷ mixed ∷ mixed ∷ mixed ∷ []) ≡ true)
+    × (passes (soft ∷ mixed ∷ (row6 1 2 3 3 2 0 ∷ drop 1 mixed) ∷ mixed ∷ []) ≡ false)
+    × (passes (soft ∷ mixed ∷ ((6 ∷ 0 ∷ 0 ∷ 0 ∷ 6 ∷ []) ∷ drop 1 mixed) ∷ mixed ∷ []) ≡ false)
+    × (passes (soft ∷ mixed ∷ mixed ∷ (row6 12 0 0 0 0 0 ∷ mixed) ∷ []) ≡ false)
+    × (passes (soft ∷ mixed ∷ mixed ∷ []) ≡ false)
+tested = (refl, refl, refl, refl, refl)

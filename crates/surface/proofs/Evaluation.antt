@@ -13,10 +13,10 @@ use mir.Facts.{and-yes}
 use mir.Syntax.{w64}
 use mir.Val.{toZ, ofZ}
 use Rattle.exact.specs.Rounding.{rounded}
-use Rattle.exact.specs.WeightedSum.{weightedSum, Summed, Within}
+use Rattle.exact.specs.WeightedSum.{weightedSum, sizes, Summed, Within}
 use Rattle.exact.proofs.Expressions.{var, lit, _⊕_, _⊗_, identity}
 use Rattle.exact.proofs.SignedCode.{reads-as}
-use Rattle.exact.proofs.WeightedSumLaws.{weightedSum-sym, sum-size, sizes, sum-sizes, sumFrom, sum-expression}
+use Rattle.exact.proofs.WeightedSumLaws.{weightedSum-sym, sum-size, sum-sizes, sumFrom, sum-expression}
 use Rattle.exact.proofs.RoundingLaws.{rounded-size}
 use Rattle.triangles.proofs.CornerForm.{s, z}
 use Rattle.spline.specs.Parts.{coefficients, partRows, parts}

@@ -4,9 +4,13 @@ use mathlib.Core.Bool.{true, false, cond}
 use mathlib.Core.List.{List, [], _∷_, map}
 use Prim.Native.Nat.{ℕ}
 use lib.IntN.{ℤ, pos, negsuc}
+use lib.ListN.{replicate}
 use lib.Ieee.{Float, fin, binary64, ofInt, div}
+use Rattle.exact.specs.Rounding.{rounded, floorQuotient}
+use Rattle.net.specs.Net.{numbers, controlPoint, controlTriangle}
 use Rattle.net.specs.Refusals.{accepted}
-use Rattle.surface.specs.SurfacePoint.{surfacePoint}
+use Rattle.spline.specs.Spline.{spline}
+use Rattle.surface.specs.SurfacePoint.{coordinate, surfacePoint}
 use Rattle.surface.specs.Refusals.{pointRefusal}
 use Rattle.surface.specs.declared.answers.PointAnswer.{PointAnswer}
 use Rattle.surface.specs.declared.answers.PointAnswer.the-variants as point
@@ -41,10 +45,30 @@ unfoldable pub viewAnswer : List ℤ → ℕ → ℕ → ℕ → ℕ → ℕ × 
 viewAnswer net w h p q =
     (pointRefusal net w h p q, cond (accepted (pointRefusal net w h p q)) (viewPoint net w h p q) [])
 
--- worked cases: 1,536 units are 1.5 mm, and -1 is -2 to the power -10 mm
+-- worked cases: 1,536 units are 1.5 mm, and -1 is -2 to the power -10 mm; outcomes of answers; of a net of 5s, an
+-- accepted place and a refused one
 millimetres-of : (millimetres (pos 1536) ≡ fin false 3 (negsuc 0)) × (millimetres (negsuc 0) ≡ fin true 1 (negsuc 9))
 unfolding div ofInt
 millimetres-of = (refl, refl)
 
-refused-point : pointOutcome (point.Refused 3) ≡ (3, [])
-refused-point = refl
+outcomes :
+    (pointOutcome (point.At (record { x = pos 1; y = pos 2; z = negsuc 2 })) ≡ (0, pos 1 ∷ pos 2 ∷ negsuc 2 ∷ []))
+    × (pointOutcome (point.Refused 3) ≡ (3, []))
+    × (viewOutcome (view.Refused 6) ≡ (6, []))
+outcomes = (refl, refl, refl)
+
+viewed :
+    viewOutcome (view.At (record { x = millimetres (pos 1); y = millimetres (pos 2); z = millimetres (pos 3) }))
+    ≡ (0, millimetres (pos 1) ∷ millimetres (pos 2) ∷ millimetres (pos 3) ∷ [])
+viewed = refl
+
+abbrev fives : List ℤ
+fives = replicate (numbers 2 2) (pos 5)
+
+answers :
+    (pointAnswer fives 2 2 1024 0 ≡ (0, pos 5 ∷ pos 5 ∷ pos 5 ∷ []))
+    × (pointAnswer fives 2 2 1025 0 ≡ (6, []))
+    × (viewAnswer fives 2 2 1024 0 ≡ (0, map millimetres (pos 5 ∷ pos 5 ∷ pos 5 ∷ [])))
+    × (viewAnswer fives 2 2 1025 0 ≡ (6, []))
+unfolding pointAnswer viewAnswer coordinate spline rounded floorQuotient controlTriangle controlPoint
+answers = (refl, refl, refl, refl)

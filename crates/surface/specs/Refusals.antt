@@ -20,14 +20,26 @@ pointRefusal net w h p q =
     ∷ (triangleBeyond net w (chosen 1024 w h p q), 3)
     ∷ [])
 
--- worked cases: document 01's example of 6, the accepted place p = 1,024 at w = 2, and a number beyond the range at a
--- vertex of the triangle and of none
+-- worked cases: every fault at once, and then without the one that was found, to none; document 01's example of 6 and the
+-- accepted place p = 1,024 at w = 2; with f + g = 1024, a number of vertex (0, 0) beyond the range counts and one of
+-- vertex (1, 1) does not, since the up triangle is chosen
 abbrev zeros : List ℤ
 zeros = replicate (numbers 2 2) (pos 0)
 
-examples :
-    (pointRefusal zeros 2 2 1025 0 ≡ 6)
+abbrev tooLarge : ℕ → List ℤ
+tooLarge at = set zeros at (pos 16777217)
+
+order :
+    (pointRefusal [] 2 1 1025 0 ≡ 1)
+    × (pointRefusal [] 2 2 1025 0 ≡ 6)
+    × (pointRefusal [] 2 2 1024 0 ≡ 2)
+    × (pointRefusal (tooLarge 9) 2 2 1024 0 ≡ 3)
     × (pointRefusal zeros 2 2 1024 0 ≡ 0)
-    × (pointRefusal (set zeros 0 (pos 16777217)) 2 2 0 0 ≡ 3)
-    × (pointRefusal (set zeros (numbers 2 2 - 1) (pos 16777217)) 2 2 0 0 ≡ 0)
-examples = (refl, refl, refl, refl)
+order = (refl, refl, refl, refl, refl)
+
+on-the-diagonal :
+    (pointRefusal (tooLarge 0) 2 2 512 512 ≡ 3)
+    × (pointRefusal (tooLarge (numbers 2 2 - 1)) 2 2 512 512 ≡ 0)
+    × (pointRefusal (tooLarge (numbers 2 2 - 1)) 2 2 512 513 ≡ 3)
+    × (pointRefusal (tooLarge 0) 2 2 512 513 ≡ 0)
+on-the-diagonal = (refl, refl, refl, refl)

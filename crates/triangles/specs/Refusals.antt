@@ -15,7 +15,8 @@ triangleBeyond net w t =
     anyBeyond (vertexNumbers net w (corner t one))
     || (anyBeyond (vertexNumbers net w (corner t two)) || anyBeyond (vertexNumbers net w (corner t three)))
 
--- worked cases: of a net of 2 by 2 whose last number, of vertex (1, 1), is beyond the range, and of one whose first is
+-- worked cases: of nets of 2 by 2 with one number beyond the range: the last, of vertex (1, 1); the first, of vertex (0,
+-- 0); and one of vertex (1, 0) and of vertex (0, 1), which are corners of both triangles
 abbrev zeros : List ℤ
 zeros = replicate (numbers 2 2) (pos 0)
 
@@ -25,3 +26,10 @@ examples :
     × (triangleBeyond (set zeros 0 (pos 16777217)) 2 (triangleAt 0 0 true) ≡ false)
     × (triangleBeyond (set zeros 0 (pos 16777217)) 2 (triangleAt 0 0 false) ≡ true)
 examples = (refl, refl, refl, refl)
+
+shared-corners :
+    (triangleBeyond (set zeros 9 (pos 16777217)) 2 (triangleAt 0 0 false) ≡ true)
+    × (triangleBeyond (set zeros 9 (pos 16777217)) 2 (triangleAt 0 0 true) ≡ true)
+    × (triangleBeyond (set zeros 26 (pos 16777217)) 2 (triangleAt 0 0 false) ≡ true)
+    × (triangleBeyond (set zeros 26 (pos 16777217)) 2 (triangleAt 0 0 true) ≡ true)
+shared-corners = (refl, refl, refl, refl)

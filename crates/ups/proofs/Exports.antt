@@ -6,10 +6,10 @@ use Prim.Native.Nat.{ℕ, _≤_, _<_}
 use native.Mathlib.Omega.{arith}
 use lib.Dec.{ltb, eqb}
 use lib.IntN.{ℤ}
-use lib.ListN.{length}
+use lib.ListN.{length, take}
 use lib.Seq.{sets}
 use Rattle.exact.specs.Filling.{over}
-use Rattle.exact.proofs.FillingLaws.{sets-over}
+use Rattle.exact.proofs.FillingLaws.{sets-over, take-over}
 use Rattle.net.specs.Net.{triangleAt}
 use Rattle.net.specs.Refusals.{badSize, shortNet, accepted, outputAfter}
 use Rattle.net.proofs.Faults.{answered, not-accepted, cond-true, cond-false, when-refused}
@@ -21,6 +21,7 @@ use Rattle.bezier.specs.Answers.{bezierOutput}
 use Rattle.bezier.specs.Refusals.{noTriangle, bezierRefusal}
 use Rattle.surface.specs.Refusals.{pointRefusal}
 use Rattle.refine.proofs.CallLaws.{Left}
+use Rattle.refined_points.specs.DemandThree.{Claimed}
 use Rattle.ups.specs.Exports.{bezierExport, pointExport, withRoom}
 
 -- a test that is joined by one that fails, and by one that holds
@@ -117,3 +118,10 @@ pub left-exported : (r k w h : ℕ) (result out scratch out′ scratch′ : List
     (n ≡ r) × Left n k w h result out scratch out′ scratch′
 left-exported r k w h result out scratch out′ scratch′ e l =
     (e, subst (λ (m : ℕ). Left m k w h result out scratch out′ scratch′) (sym e) l)
+
+-- demand 3 of the numbers that an accepted call left in the point's output
+pub claimed-exported : (net : List ℤ) (w h k p q : ℕ) {r : ℕ} {outcome : ℕ × List ℤ} (values out : List ℤ) {after : List ℤ} →
+    Claimed net w h k p q outcome → outcome ≡ (r, values) → length values ≡ 3 → after ≡ over values out → Claimed net w h k p q (r, take 3 after)
+claimed-exported net w h k p q {r} values out {after} claim e three left =
+    let front : values ≡ take 3 after = sym (take-over values out) ∙ (λ t. take (three t) (over values out)) ∙ sym (ap (take 3) left) in
+    subst (Claimed net w h k p q) (e ∙ (λ t. (r, front t))) claim

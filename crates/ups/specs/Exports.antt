@@ -1,20 +1,28 @@
 -- The calls of document 01 for callers in C and Rust: an answer is document 01's number, 0 where the call is accepted,
 -- and a result goes into a lent output, in whose place document 01's order has 5.
-use mathlib.Core.Bool.{Bool, cond, _||_}
+use mathlib.Core.Path.{_≡_, refl}
+use mathlib.Core.Bool.{Bool, true, false, cond, _||_}
 use mathlib.Core.List.{List, [], _∷_}
-use Prim.Native.Nat.{ℕ}
+use Prim.Native.Nat.{ℕ, _-_}
 use lib.Dec.{ltb, eqb}
-use lib.IntN.{ℤ}
-use Rattle.net.specs.Net.{triangleAt}
-use Rattle.net.specs.Refusals.{firstFault, badSize, shortNet}
+use lib.IntN.{ℤ, pos}
+use lib.ListN.{length, replicate, set}
+use Rattle.exact.specs.Filling.{runs}
+use Rattle.net.specs.Net.{Triangle, triangleAt, numbers, squares}
+use Rattle.net.specs.Refusals.{firstFault, badSize, shortNet, netBeyond}
 use Rattle.places.specs.Places.{chosen}
 use Rattle.places.specs.Refusals.{noPlace}
 use Rattle.triangles.specs.Refusals.{triangleBeyond}
 use Rattle.bezier.specs.Refusals.{noTriangle}
+use Rattle.refined_points.specs.Answers.{refusalAt}
+use Rattle.words.specs.NetFile.{wordBytes, firstWord, pointBytes, netFile, fileSize, fileWidth, fileHeight}
 use Rattle.writer.specs.Refusals.{writeRefusal, noRoom}
 use Rattle.reader.specs.Refusals.{readRefusal, shortFor}
 
 -- `down` is 0 for the up triangle and 1 for the down triangle; another number names no triangle
+abbrev pub exportedTriangle : ℕ → ℕ → ℕ → Triangle
+exportedTriangle i j down = triangleAt i j (eqb down 1)
+
 abbrev pub bezierExport : List ℤ → ℕ → ℕ → ℕ → ℕ → ℕ → ℕ → ℕ
 bezierExport net w h i j down room =
     firstFault
@@ -22,7 +30,7 @@ bezierExport net w h i j down room =
     ∷ (noTriangle w h i j || ltb 1 down, 6)
     ∷ (shortNet net w h, 2)
     ∷ (ltb room 57, 5)
-    ∷ (triangleBeyond net w (triangleAt i j (eqb down 1)), 3)
+    ∷ (triangleBeyond net w (exportedTriangle i j down), 3)
     ∷ [])
 
 -- three numbers of room for a point
@@ -40,10 +48,81 @@ pointExport net w h p q room =
 abbrev pub withRoom : Bool → ℕ → ℕ
 withRoom short n = cond short (cond (eqb n 0 || eqb n 3) 5 n) n
 
+-- of a refined point, 5 is of the output, of the scratch or of the point's three numbers
+abbrev pub refinedPointExport : List ℤ → ℕ → ℕ → ℕ → ℕ → ℕ → List ℤ → List ℤ → List ℤ → ℕ
+refinedPointExport net w h k p q out scratch point = refusalAt net w h k p q (ltb (length point) 3) out scratch
+
 -- the count of bytes needs room for one number, and 5 is of either output
 abbrev pub writeExport : List ℤ → ℕ → ℕ → ℕ → ℕ → ℕ
 writeExport net w h room counts = writeRefusal net w h (ltb counts 1 || noRoom w h room)
 
--- width and height need room for two
+abbrev pub writtenCount : ℕ → ℕ → List ℕ
+writtenCount w h = fileSize w h ∷ []
+
+-- width and height need room for two, width first
 abbrev pub readExport : List ℕ → ℕ → ℕ → ℕ
 readExport file room sides = readRefusal file (ltb sides 2 || shortFor file room)
+
+abbrev pub readSize : List ℕ → List ℕ
+readSize file = fileWidth file ∷ fileHeight file ∷ []
+
+-- ---- worked cases: every fault at once, and then without the one that was found, to none
+
+abbrev zeros : List ℤ
+zeros = replicate (numbers 2 2) (pos 0)
+
+abbrev tooLarge : List ℤ
+tooLarge = set zeros (numbers 2 2 - 1) (pos 16777217)
+
+bezier-order :
+    (bezierExport [] 2 1 0 0 2 56 ≡ 1)
+    × (bezierExport [] 2 2 0 0 2 56 ≡ 6)
+    × (bezierExport [] 2 2 0 0 1 56 ≡ 2)
+    × (bezierExport tooLarge 2 2 0 0 1 56 ≡ 5)
+    × (bezierExport tooLarge 2 2 0 0 1 57 ≡ 3)
+    × (bezierExport tooLarge 2 2 0 0 0 57 ≡ 0)
+bezier-order = (refl, refl, refl, refl, refl, refl)
+
+triangles : (exportedTriangle 3 5 0 ≡ triangleAt 3 5 false) × (exportedTriangle 3 5 1 ≡ triangleAt 3 5 true)
+triangles = (refl, refl)
+
+point-order :
+    (pointExport [] 2 1 1025 1024 2 ≡ 1)
+    × (pointExport [] 2 2 1025 1024 2 ≡ 6)
+    × (pointExport [] 2 2 1024 1024 2 ≡ 2)
+    × (pointExport tooLarge 2 2 1024 1024 2 ≡ 5)
+    × (pointExport tooLarge 2 2 1024 1024 3 ≡ 3)
+    × (pointExport zeros 2 2 1024 1024 3 ≡ 0)
+point-order = (refl, refl, refl, refl, refl, refl)
+
+-- of k = 0, which needs no scratch: a point with room for two numbers and for three, and an output that is too short
+refined-point-room :
+    (refinedPointExport zeros 2 2 0 0 0 zeros [] (pos 7 ∷ pos 7 ∷ []) ≡ 5)
+    × (refinedPointExport zeros 2 2 0 0 0 zeros [] (pos 7 ∷ pos 7 ∷ pos 7 ∷ []) ≡ 0)
+    × (refinedPointExport zeros 2 2 0 0 0 [] [] (pos 7 ∷ pos 7 ∷ pos 7 ∷ []) ≡ 5)
+    × (refinedPointExport tooLarge 2 2 0 0 0 zeros [] [] ≡ 5)
+    × (refinedPointExport tooLarge 2 2 0 0 0 zeros [] (pos 7 ∷ pos 7 ∷ pos 7 ∷ []) ≡ 3)
+unfolding netBeyond
+refined-point-room = (refl, refl, refl, refl, refl)
+
+write-order :
+    (writeExport [] 2 1 155 0 ≡ 1)
+    × (writeExport [] 2 2 155 0 ≡ 2)
+    × (writeExport tooLarge 2 2 155 1 ≡ 5)
+    × (writeExport tooLarge 2 2 156 0 ≡ 5)
+    × (writeExport tooLarge 2 2 156 1 ≡ 3)
+    × (writeExport zeros 2 2 156 1 ≡ 0)
+unfolding netBeyond
+write-order = (refl, refl, refl, refl, refl, refl)
+
+-- the net of 2 by 3 whose numbers are the squares: its file, read with and without room
+abbrev file23 : List ℕ
+file23 = netFile (squares 54) 2 3
+
+read-room : (readExport file23 54 1 ≡ 5) × (readExport file23 53 2 ≡ 5) × (readExport file23 54 2 ≡ 0)
+unfolding wordBytes firstWord pointBytes netFile runs
+read-room = (refl, refl, refl)
+
+sizes-and-counts : (readSize file23 ≡ 2 ∷ 3 ∷ []) × (writtenCount 2 3 ≡ 228 ∷ [])
+unfolding wordBytes firstWord pointBytes netFile runs
+sizes-and-counts = (refl, refl)

@@ -20,10 +20,9 @@ use writer::write_with;
 ghost use mathlib.Core.Path.{_≡_};
 ghost use mathlib.Core.List.{[], _∷_};
 ghost use Prim.Native.Nat.{_≤_};
-ghost use lib.Dec.{ltb, eqb};
-ghost use lib.ListN.{length};
+ghost use lib.Dec.{ltb};
+ghost use lib.ListN.{length, take};
 ghost use Rattle.exact.specs.Filling.{over};
-ghost use Rattle.net.specs.Net.{triangleAt};
 ghost use Rattle.net.specs.Refusals.{outputAfter, vertexRefusal};
 ghost use Rattle.bezier.specs.BezierNet.{bezierNumbers};
 ghost use Rattle.surface.specs.SurfacePoint.{surfacePoint};
@@ -31,9 +30,10 @@ ghost use Rattle.surface.specs.Answers.{viewPoint};
 ghost use Rattle.steps.specs.RefinedNet.{refinedNet};
 ghost use Rattle.steps.specs.Steps.{UnchangedFrom};
 ghost use Rattle.refine.specs.Answers.{refusalOf, freeScratch};
-ghost use Rattle.refined_points.specs.Answers.{refusalAt, refinedSurfacePoint};
-ghost use Rattle.words.specs.NetFile.{netFile, fileSize, fileWidth, fileHeight, fileNumbers};
-ghost use Rattle.ups.specs.Exports.{bezierExport, pointExport, withRoom, writeExport, readExport};
+ghost use Rattle.refined_points.specs.Answers.{refinedSurfacePoint};
+ghost use Rattle.refined_points.specs.DemandThree.{Claimed};
+ghost use Rattle.words.specs.NetFile.{netFile, fileNumbers};
+ghost use Rattle.ups.specs.Exports.{exportedTriangle, bezierExport, pointExport, withRoom, refinedPointExport, writeExport, writtenCount, readExport, readSize};
 
 // 1, 6, 2, or 0: the companion of the vertex part.
 #[no_mangle]
@@ -55,7 +55,7 @@ pub extern "C" fn ups_bezier_net(
     out: &mut [i32],
 ) -> u32
     ensures { λ r. ⌜ r ≡ bezierExport (now (net .entry)) w h i j down (length (now (out .entry))) ⌝ }
-    ensures { λ r. ⌜ now (out .exit) ≡ outputAfter r (bezierNumbers (now (net .entry)) w (triangleAt i j (eqb down 1))) (now (out .entry)) ⌝ }
+    ensures { λ r. ⌜ now (out .exit) ≡ outputAfter r (bezierNumbers (now (net .entry)) w (exportedTriangle i j down)) (now (out .entry)) ⌝ }
 {
     if 1 < down {
         if bad_size(w, h) {
@@ -158,7 +158,7 @@ pub extern "C" fn ups_write(
 ) -> u32
     ensures { λ r. ⌜ r ≡ writeExport (now (net .entry)) w h (length (now (out .entry))) (length (now (written .entry))) ⌝ }
     ensures { λ r. ⌜ now (out .exit) ≡ outputAfter r (netFile (now (net .entry)) w h) (now (out .entry)) ⌝ }
-    ensures { λ r. ⌜ now (written .exit) ≡ outputAfter r (fileSize w h ∷ []) (now (written .entry)) ⌝ }
+    ensures { λ r. ⌜ now (written .exit) ≡ outputAfter r (writtenCount w h) (now (written .entry)) ⌝ }
 {
     let answer = write_with(net, w, h, written.len() < 1, out);
     match answer {
@@ -175,7 +175,7 @@ pub extern "C" fn ups_write(
 pub extern "C" fn ups_read(file: &[u8], net: &mut [i32], size: &mut [u64]) -> u32
     ensures { λ r. ⌜ r ≡ readExport (now (file .entry)) (length (now (net .entry))) (length (now (size .entry))) ⌝ }
     ensures { λ r. ⌜ now (net .exit) ≡ outputAfter r (fileNumbers (now (file .entry))) (now (net .entry)) ⌝ }
-    ensures { λ r. ⌜ now (size .exit) ≡ outputAfter r (fileWidth (now (file .entry)) ∷ fileHeight (now (file .entry)) ∷ []) (now (size .entry)) ⌝ }
+    ensures { λ r. ⌜ now (size .exit) ≡ outputAfter r (readSize (now (file .entry))) (now (size .entry)) ⌝ }
 {
     let answer = read_with(file, size.len() < 2, net);
     match answer {
@@ -209,7 +209,7 @@ pub extern "C" fn ups_refine(
     }
 }
 
-// The same, and the surface point at place (p, q) of the refined net into `point`.
+// The same, and the surface point at place (p, q) of the refined net into `point`. Its last promise is demand 3.
 #[no_mangle]
 pub extern "C" fn ups_refined_point(
     net: &[i32],
@@ -222,10 +222,11 @@ pub extern "C" fn ups_refined_point(
     scratch: &mut [i32],
     point: &mut [i32],
 ) -> u32
-    ensures { λ r. ⌜ r ≡ refusalAt (now (net .entry)) w h k p q (ltb (length (now (point .entry))) 3) (now (out .entry)) (now (scratch .entry)) ⌝ }
+    ensures { λ r. ⌜ r ≡ refinedPointExport (now (net .entry)) w h k p q (now (out .entry)) (now (scratch .entry)) (now (point .entry)) ⌝ }
     ensures { λ r. ⌜ now (out .exit) ≡ outputAfter r (refinedNet (now (net .entry)) w h k) (now (out .entry)) ⌝ }
     ensures { λ r. ⌜ UnchangedFrom (freeScratch r k w h) (now (scratch .entry)) (now (scratch .exit)) ⌝ }
     ensures { λ r. ⌜ now (point .exit) ≡ outputAfter r (refinedSurfacePoint (now (net .entry)) w h k p q) (now (point .entry)) ⌝ }
+    ensures { λ r. ⌜ (r ≡ 0 → Claimed (now (net .entry)) w h k p q (r, take 3 (now (point .exit)))) ⌝ }
 {
     let answer = refined_point_with(net, w, h, k, p, q, point.len() < 3, out, scratch);
     match answer {

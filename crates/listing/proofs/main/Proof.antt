@@ -6,29 +6,23 @@ use Rattle.listing_text.specs.declared.files.ListAnswer.{ListAnswer}
 use Rattle.listing.proofs.main.Statement.{statement}
 use Rattle.listing.proofs.main.Tie as tie
 
-large-buffer-requires : tie.Need-large-buffer-requires
-large-buffer-requires c κs = search needs
-
 slice-aggregate-read-full : tie.Need-slice-aggregate-read-full
 slice-aggregate-read-full c = search needs
 
 read-full-requires : tie.Need-read-full-requires
 read-full-requires c κs = search needs
 
-array-share-prefix-input : tie.Need-array-share-prefix-input
-array-share-prefix-input c = search needs
+slice-aggregate-refine-input : tie.Need-slice-aggregate-refine-input
+slice-aggregate-refine-input c = search needs
 
-slice-aggregate-refine-file : tie.Need-slice-aggregate-refine-file
-slice-aggregate-refine-file c = search needs
+slice-aggregate-refine-input-2 : tie.Need-slice-aggregate-refine-input-2
+slice-aggregate-refine-input-2 c = search needs
 
-slice-aggregate-refine-file-2 : tie.Need-slice-aggregate-refine-file-2
-slice-aggregate-refine-file-2 c = search needs
+slice-aggregate-refine-input-3 : tie.Need-slice-aggregate-refine-input-3
+slice-aggregate-refine-input-3 c = search needs
 
-slice-aggregate-refine-file-3 : tie.Need-slice-aggregate-refine-file-3
-slice-aggregate-refine-file-3 c = search needs
-
-refine-file-requires : tie.Need-refine-file-requires
-refine-file-requires c κs = search needs
+refine-input-requires : tie.Need-refine-input-requires
+refine-input-requires c κs = search needs
 
 enum-known-answer : tie.Need-enum-known-answer
 enum-known-answer c = search needs
@@ -37,7 +31,9 @@ slice-aggregate-print-listing : tie.Need-slice-aggregate-print-listing
 slice-aggregate-print-listing c = search needs
 
 print-listing-requires : tie.Need-print-listing-requires
-print-listing-requires c κs = subst (λ (r : ListAnswer). ReadyToList r (c .before .before .before .before .before .before .refine-file .last .1 .1 .0)) (c .before .before .answer .given .1) (c .before .before .before .before .before .before .refine-file .ensures .1 .1 .1)
+print-listing-requires c κs =
+    let k = c .before .before .before .before .before .before in
+    subst (λ (r : ListAnswer). ReadyToList r (k .refine-input .last .1 .1 .1 .0)) (c .before .before .answer .given .1) (k .refine-input .ensures .ready)
 
 enum-known-answer-2 : tie.Need-enum-known-answer-2
 enum-known-answer-2 c = search needs
@@ -55,14 +51,12 @@ pub main-spec : {M : Type 1} → statement M
 main-spec =
     tie.close
     (tie.spec
-    large-buffer-requires
     slice-aggregate-read-full
     read-full-requires
-    array-share-prefix-input
-    slice-aggregate-refine-file
-    slice-aggregate-refine-file-2
-    slice-aggregate-refine-file-3
-    refine-file-requires
+    slice-aggregate-refine-input
+    slice-aggregate-refine-input-2
+    slice-aggregate-refine-input-3
+    refine-input-requires
     enum-known-answer
     slice-aggregate-print-listing
     print-listing-requires

@@ -1,5 +1,5 @@
 -- `ups::ups_refined_point` meets its contract.
-use mathlib.Core.Path.{_≡_, sym, ap, _∙_}
+use mathlib.Core.Path.{_≡_, refl, sym, ap, _∙_}
 use mathlib.Core.Bool.{Bool, cond}
 use mathlib.Core.List.{List, [], _∷_}
 use Prim.Native.Nat.{ℕ, _≤_}
@@ -18,7 +18,7 @@ use Rattle.surface.specs.Answers.{pointOutcome}
 use Rattle.steps.specs.RefinedNet.{refinedNet}
 use Rattle.refined_points.specs.Answers.{refusalAt, refinedSurfacePoint}
 use Rattle.refined_points.proofs.RefinedPoints.{point-accepted}
-use Rattle.ups.proofs.Exports.{left-exported}
+use Rattle.ups.proofs.Exports.{left-exported, claimed-exported}
 use Rattle.ups.proofs.ups_refined_point.Statement.{statement}
 use Rattle.ups.proofs.ups_refined_point.Tie as tie
 
@@ -49,7 +49,7 @@ module _ (c : tie.After-answer) where
   start = call .before .before .before
 
   outcome : _≡_ {A = ℕ × List ℤ} (pointOutcome (call .refined-point-with .result)) (refusal start, cond (accepted (refusal start)) (values start) [])
-  outcome = call .refined-point-with .ensures .0
+  outcome = call .refined-point-with .ensures .answer
 
   given : (let point = c .answer .given .0 .0 in (refusal start ≡ 0) × (point .x ∷ point .y ∷ point .z ∷ [] ≡ values start))
   given = answered (refusal start) (values start) (sym (ap pointOutcome (c .answer .given .1)) ∙ outcome)
@@ -84,17 +84,22 @@ returns c =
     let k = call a in
     let point = a .answer .given .0 .0 in
     let fits = c .before .before .before .struct-told .given in
-    let left = left-exported (refusal s) (s .args .k) (s .args .w) (s .args .h) (result s) (s .args .out .now) (s .args .scratch .now) (k .refined-point-with .last .1 .1 .1 .1 .1 .1 .1 .0) (k .refined-point-with .last .1 .1 .1 .1 .1 .1 .1 .1 .0) (sym (given a .0)) (k .refined-point-with .ensures .1) in
-    let out = s .args .point .now in (
+    let left = left-exported (refusal s) (s .args .k) (s .args .w) (s .args .h) (result s) (s .args .out .now) (s .args .scratch .now) (k .refined-point-with .last .1 .1 .1 .1 .1 .1 .1 .0) (k .refined-point-with .last .1 .1 .1 .1 .1 .1 .1 .1 .0) (sym (given a .0)) (k .refined-point-with .ensures .output, k .refined-point-with .ensures .scratchFree) in
+    let out = s .args .point .now in
+    let stored =
+    c .before .store-point .ensures
+    ∙ (λ t. set (set (set out 0 (reads-back w32 (point .x) (fits .0 .1) t)) 1 (reads-back w32 (point .y) (fits .1 .0 .1) t)) 2 (reads-back w32 (point .z) (fits .1 .1 .0 .1) t))
+    ∙ sets-over (point .x ∷ point .y ∷ point .z ∷ []) out (room s (given a .0))
+    ∙ ap (λ (l : List ℤ). over l out) (given a .1) in
+    let claim =
+    claimed-exported (s .args .net .now) (s .args .w) (s .args .h) (s .args .k) (s .args .p) (s .args .q) (values s) out
+    (k .refined-point-with .ensures .demandThree (given a .0)) (ap pointOutcome (a .answer .given .1) ∙ (λ t. (0, given a .1 t))) refl stored in (
       left .0,
       (
         left .1 .0,
         (
           left .1 .1,
-          c .before .store-point .ensures
-              ∙ (λ t. set (set (set out 0 (reads-back w32 (point .x) (fits .0 .1) t)) 1 (reads-back w32 (point .y) (fits .1 .0 .1) t)) 2 (reads-back w32 (point .z) (fits .1 .1 .0 .1) t))
-              ∙ sets-over (point .x ∷ point .y ∷ point .z ∷ []) out (room s (given a .0))
-              ∙ ap (λ (l : List ℤ). over l out) (given a .1),
+          (stored, λ none. claim),
         ),
       ),
     )
@@ -109,10 +114,12 @@ returns-2 : tie.Need-returns-2
 returns-2 c =
     let k = c .before .before .before .before .before in
     let s = k .before .before .before in
-    let outcome = sym (ap pointOutcome (c .before .answer2 .given .1)) ∙ k .refined-point-with .ensures .0 in
-    let left = left-exported (refusal s) (s .args .k) (s .args .w) (s .args .h) (result s) (s .args .out .now) (s .args .scratch .now) (k .refined-point-with .last .1 .1 .1 .1 .1 .1 .1 .0) (k .refined-point-with .last .1 .1 .1 .1 .1 .1 .1 .1 .0) (λ t. outcome t .0) (k .refined-point-with .ensures .1) in
+    let outcome = sym (ap pointOutcome (c .before .answer2 .given .1)) ∙ k .refined-point-with .ensures .answer in
+    let left = left-exported (refusal s) (s .args .k) (s .args .w) (s .args .h) (result s) (s .args .out .now) (s .args .scratch .now) (k .refined-point-with .last .1 .1 .1 .1 .1 .1 .1 .0) (k .refined-point-with .last .1 .1 .1 .1 .1 .1 .1 .1 .0) (λ t. outcome t .0) (k .refined-point-with .ensures .output, k .refined-point-with .ensures .scratchFree) in
     let there = not-accepted (refusal s) (values s) (lit< tt) outcome in
-    (left .0, (left .1 .0, (left .1 .1, when-refused (c .before .answer2 .given .0 .0) (over (values s) (s .args .point .now)) (s .args .point .now) (λ z. there (sym (left .0) ∙ z)))))
+    let refused : c .before .answer2 .given .0 .0 ≡ 0 → ⊥ = λ z. there (sym (left .0) ∙ z) in
+    let kept = when-refused (c .before .answer2 .given .0 .0) (over (values s) (s .args .point .now)) (s .args .point .now) refused in
+    (left .0, (left .1 .0, (left .1 .1, (kept, λ none. absurd (refused none)))))
 
 pub ups-refined-point-spec : {M : Type 1} → statement M
 ups-refined-point-spec =

@@ -1,6 +1,5 @@
 -- `refined_points::points::refined_point` meets its contract.
 use borrow.Author.Needs.{needs}
-use Rattle.refined_points.proofs.RefinedPoints.{answer-claimed}
 use Rattle.refined_points.proofs.points.refined_point.Statement.{statement}
 use Rattle.refined_points.proofs.points.refined_point.Tie as tie
 
@@ -14,10 +13,7 @@ same-length-2 : tie.Need-same-length-2
 same-length-2 c = search needs
 
 returns : tie.Need-returns
-returns c =
-    let s = c .before .before .before .before .before in
-    let e = c .before .before .refined-point-with .ensures in
-    (e .0, (e .1 .0, (e .1 .1, λ none. answer-claimed (s .args .net .now) (s .args .w) (s .args .h) (s .args .k) (s .args .p) (s .args .q) (s .args .out .now) (s .args .scratch .now) none (e .0))))
+returns c = c .before .before .refined-point-with .ensures
 
 pub refined-point-spec : {M : Type 1} → statement M
 refined-point-spec =

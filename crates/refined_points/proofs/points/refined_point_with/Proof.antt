@@ -16,7 +16,7 @@ use Rattle.steps.proofs.Sides.{wide-ready, high-ready}
 use Rattle.refine.proofs.Refinable.{Refinable}
 use Rattle.refine.proofs.CallLaws.{left-accepted, left-refused}
 use Rattle.refined_points.specs.Answers.{refusalAt, refinedSurfacePoint}
-use Rattle.refined_points.proofs.RefinedPoints.{point-accepted, point-answered, point-of-refined}
+use Rattle.refined_points.proofs.RefinedPoints.{point-accepted, point-answered, point-of-refined, answer-claimed}
 use Rattle.refined_points.proofs.points.refined_point_with.Statement.{statement}
 use Rattle.refined_points.proofs.points.refined_point_with.Tie as tie
 
@@ -51,10 +51,15 @@ returns : tie.Need-returns
 returns c =
     let s = c .before .before in
     let a = s .args in
-    let e = c .before .refusal-at .ensures in (
-      refused-answer (refusal s) (values s) e (c .if1 .taken),
-      left-refused (refusal s) (a .k) (a .w) (a .h) (result s) (a .out .now) (a .scratch .now) (λ z. c .if1 .taken (e ∙ z)),
-    )
+    let e = c .before .refusal-at .ensures in
+    let there : refusal s ≡ 0 → ⊥ = λ z. c .if1 .taken (e ∙ z) in
+    let left = left-refused (refusal s) (a .k) (a .w) (a .h) (result s) (a .out .now) (a .scratch .now) there in
+    record {
+      answer = refused-answer (refusal s) (values s) e (c .if1 .taken);
+      output = left .0;
+      scratchFree = left .1;
+      demandThree = λ none. absurd (there none);
+    }
 
 refine-steps-requires : tie.Need-refine-steps-requires
 refine-steps-requires c κs =
@@ -86,10 +91,15 @@ returns-2 c =
     let outcome =
     c .surface-point .ensures
     ∙ (λ i. pointAnswer (steps .ensures .0 i) (c .before .before .before .side-after .ensures i) (c .before .before .side-after2 .ensures i) (a .p) (a .q))
-    ∙ sym (point-answered (a .net .now) (a .w) (a .h) (a .k) (a .out .now) (t .0) (a .p) (a .q) (t .1)) in (
-      outcome ∙ accepted-answer (refusal s) (values s) (none e) (point-of-refined (a .net .now) (a .w) (a .h) (a .k) (a .out .now) (t .0) (a .p) (a .q) (t .1)),
-      left-accepted (refusal s) (a .k) (a .w) (a .h) (result s) (a .out .now) (a .scratch .now) (steps .last .1 .1 .1 .1 .1 .0) (none e) (steps .ensures .0) (steps .ensures .1),
-    )
+    ∙ sym (point-answered (a .net .now) (a .w) (a .h) (a .k) (a .out .now) (t .0) (a .p) (a .q) (t .1))
+    ∙ accepted-answer (refusal s) (values s) (none e) (point-of-refined (a .net .now) (a .w) (a .h) (a .k) (a .out .now) (t .0) (a .p) (a .q) (t .1)) in
+    let left = left-accepted (refusal s) (a .k) (a .w) (a .h) (result s) (a .out .now) (a .scratch .now) (steps .last .1 .1 .1 .1 .1 .0) (none e) (steps .ensures .0) (steps .ensures .1) in
+    record {
+      answer = outcome;
+      output = left .0;
+      scratchFree = left .1;
+      demandThree = answer-claimed (a .net .now) (a .w) (a .h) (a .k) (a .p) (a .q) (a .short) (a .out .now) (a .scratch .now) outcome;
+    }
 
 pub refined-point-with-spec : {M : Type 1} → statement M
 refined-point-with-spec =
