@@ -66,7 +66,8 @@ abbrev pub formed : List ℤ → ℕ → Triangle → ℕ → List ℤ
 formed net w t x = inForm (t .down) (controlsOf (field net w x) t) o123
 
 -- what the code reads of the loaded and reordered control triangles
-pub reordered-values : (net : List ℤ) (w : ℕ) (t : Triangle) {c d : List (List (List ℤ))} → c ≡ cornerControls net w t → d ≡ reorderedControls (t .down) c →
+pub reordered-values : (net : List ℤ) (w : ℕ) (t : Triangle) {c d : List (List (List ℤ))} → c ≡ cornerControls net w t →
+    d ≡ reorderedControls (t .down) c →
     (x : ℕ) {values : List ℤ} → values ≡ valuesIn d x → values ≡ formed net w t x
 reordered-values net w t ec ed x q =
     q
@@ -75,10 +76,12 @@ reordered-values net w t ec ed x q =
     ∙ loaded-form net w t (t .down) o123 x
 
 -- they are in range
-pub formed-within : (net : List ℤ) (w i j : ℕ) (down : Bool) → InNet net w i j → triangleBeyond net w (triangleAt i j down) ≡ false →
+pub formed-within : (net : List ℤ) (w i j : ℕ) (down : Bool) → InNet net w i j →
+    triangleBeyond net w (triangleAt i j down) ≡ false →
     (x : ℕ) → x < 3 → Within 16777216 (formed net w (triangleAt i j down) x)
 formed-within net w i j down l e x h =
-    form-within 16777216 down (controlsOf (field net w x) (triangleAt i j down)) o123 (value-size net w i j down l e x h)
+    form-within 16777216 down (controlsOf (field net w x) (triangleAt i j down)) o123
+    (value-size net w i j down l e x h)
 
 -- the points of the control values are the points of the net
 abbrev pub pointsOf : List ℤ → List ℤ
@@ -92,20 +95,26 @@ points-of-net net w t =
     λ i. runs 19 (threeAt (same 0 i) (same 1 i) (same 2 i))
 
 -- answer and output where the call is accepted, and where it is refused
-pub accepted-bezier : (net : List ℤ) (w h i j : ℕ) (down : Bool) (out : List ℤ) {l : List ℤ} → bezierRefusal net w h i j down (length out) ≡ 0 →
+pub accepted-bezier : (net : List ℤ) (w h i j : ℕ) (down : Bool) (out : List ℤ) {l : List ℤ} →
+    bezierRefusal net w h i j down (length out) ≡ 0 →
     l ≡ over (bezierNumbers net w (triangleAt i j down)) out →
-    (_≡_ {A = ℕ × Bool} (0, true) (bezierAnswer net w h i j down (length out))) × (l ≡ bezierOutput net w h i j down out)
+    (_≡_ {A = ℕ × Bool} (0, true) (bezierAnswer net w h i j down (length out)))
+    × (l ≡ bezierOutput net w h i j down out)
 unfolding bezierOutput
 accepted-bezier net w h i j down out e q = (
   (λ t. (sym e t, sym (eq-eqb (bezierRefusal net w h i j down (length out)) 0 e) t)),
-  q ∙ when-accepted (bezierRefusal net w h i j down (length out)) (over (bezierNumbers net w (triangleAt i j down)) out) out e,
+  q ∙ when-accepted (bezierRefusal net w h i j down (length out))
+      (over (bezierNumbers net w (triangleAt i j down)) out) out e,
 )
 
-pub refused-bezier : (net : List ℤ) (w h i j : ℕ) (down : Bool) (out : List ℤ) {n : ℕ} → n ≡ bezierRefusal net w h i j down (length out) → (n ≡ 0 → ⊥) →
-    (_≡_ {A = ℕ × Bool} (n, false) (bezierAnswer net w h i j down (length out))) × (out ≡ bezierOutput net w h i j down out)
+pub refused-bezier : (net : List ℤ) (w h i j : ℕ) (down : Bool) (out : List ℤ) {n : ℕ} →
+    n ≡ bezierRefusal net w h i j down (length out) → (n ≡ 0 → ⊥) →
+    (_≡_ {A = ℕ × Bool} (n, false) (bezierAnswer net w h i j down (length out)))
+    × (out ≡ bezierOutput net w h i j down out)
 unfolding bezierOutput
 refused-bezier net w h i j down out e k =
     let there : bezierRefusal net w h i j down (length out) ≡ 0 → ⊥ = λ z. k (e ∙ z) in (
       (λ t. (e t, sym (ne-eqb (bezierRefusal net w h i j down (length out)) 0 there) t)),
-      when-refused (bezierRefusal net w h i j down (length out)) (over (bezierNumbers net w (triangleAt i j down)) out) out there,
+      when-refused (bezierRefusal net w h i j down (length out))
+          (over (bezierNumbers net w (triangleAt i j down)) out) out there,
     )

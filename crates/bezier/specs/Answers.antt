@@ -20,7 +20,8 @@ bezierOutcome (answer.Refused n) = (n, false)
 
 -- what a Bézier net answers: the first fault, and that it is carried out exactly where there is none
 abbrev pub bezierAnswer : List ℤ → ℕ → ℕ → ℕ → ℕ → Bool → ℕ → ℕ × Bool
-bezierAnswer net w h i j down room = (bezierRefusal net w h i j down room, accepted (bezierRefusal net w h i j down room))
+bezierAnswer net w h i j down room =
+    (bezierRefusal net w h i j down room, accepted (bezierRefusal net w h i j down room))
 
 -- the Bézier net laid over the front of the lent output, which a refusal leaves as it was
 unfoldable pub bezierOutput : List ℤ → ℕ → ℕ → ℕ → ℕ → Bool → List ℤ → List ℤ

@@ -31,10 +31,11 @@ bezierPoint net w t n = bezierNumber net w t n 0 ∷ bezierNumber net w t n 1 �
 abbrev pub bezierNumbers : List ℤ → ℕ → Triangle → List ℤ
 bezierNumbers net w t = runs 19 (bezierPoint net w t)
 
--- worked cases: controls that are all 5 have all points 5, times 36; of the net of 3 by 2 whose numbers are the squares,
--- the 57 numbers of the up triangle of cell (1, 0), which all differ, and x of the points of the down triangle of cell
--- (0, 0)
-constant-points : (bezierPoints false (λ P k. pos 5) ≡ replicate 19 (pos 180)) × (bezierPoints true (λ P k. pos 5) ≡ replicate 19 (pos 180))
+-- worked cases: controls that are all 5 have all points 5, times 36; of the net of 3 by 2 whose numbers are the
+-- squares, the 57 numbers of the up triangle of cell (1, 0), which all differ, and x of the points of the down triangle
+-- of cell (0, 0)
+constant-points : (bezierPoints false (λ P k. pos 5) ≡ replicate 19 (pos 180))
+    × (bezierPoints true (λ P k. pos 5) ≡ replicate 19 (pos 180))
 unfolding bezierPoints
 constant-points = (refl, refl)
 

@@ -25,8 +25,8 @@ bezierRefusal net w h i j down room =
     ∷ (triangleBeyond net w (triangleAt i j down), 3)
     ∷ [])
 
--- worked cases: every fault at once, and then without the one that was found, to a number beyond the range at a vertex of
--- the down triangle and to none; the last cell of 3 by 2, and a row of cells that it does not have
+-- worked cases: every fault at once, and then without the one that was found, to a number beyond the range at a vertex
+-- of the down triangle and to none; the last cell of 3 by 2, and a row of cells that it does not have
 abbrev zeros : List ℤ
 zeros = replicate (numbers 2 2) (pos 0)
 

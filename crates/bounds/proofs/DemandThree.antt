@@ -41,10 +41,17 @@ limits : (zs : List ℤ) (i : ℕ) → i < length zs → Between (least zs) (gre
 limits [] i h = absurd (omega (arith, h))
 limits (z ∷ []) zero h = (≤ℤ-refl z, ≤ℤ-refl z)
 limits (z ∷ []) (suc i) h = absurd (omega (arith, h))
-limits (z ∷ y ∷ ys) zero h = (of-two z (least (y ∷ ys)) (leZ z (least (y ∷ ys))) refl .0, of-two z (greatest (y ∷ ys)) (leZ z (greatest (y ∷ ys))) refl .2)
+limits (z ∷ y ∷ ys) zero h = (
+  of-two z (least (y ∷ ys)) (leZ z (least (y ∷ ys))) refl .0,
+  of-two z (greatest (y ∷ ys))
+      (leZ z (greatest (y ∷ ys))) refl .2,
+)
 limits (z ∷ y ∷ ys) (suc i) h =
-    let l = limits (y ∷ ys) i (omega (arith, h)) in
-    (≤ℤ-trans (of-two z (least (y ∷ ys)) (leZ z (least (y ∷ ys))) refl .1) (l .0), ≤ℤ-trans (l .1) (of-two z (greatest (y ∷ ys)) (leZ z (greatest (y ∷ ys))) refl .3))
+    let l = limits (y ∷ ys) i (omega (arith, h)) in (
+      ≤ℤ-trans (of-two z (least (y ∷ ys)) (leZ z (least (y ∷ ys))) refl .1) (l .0),
+      ≤ℤ-trans (l .1)
+          (of-two z (greatest (y ∷ ys)) (leZ z (greatest (y ∷ ys))) refl .3),
+    )
 
 control-limits : (c : Controls) (P l : Index) → Between (least (controlList c)) (greatest (controlList c)) (c P l)
 control-limits c one one = limits (controlList c) 0 (lit< tt)
@@ -67,13 +74,15 @@ demand-three net w h a k p q x c g =
       λ t of-net lies.
           let m = least (controlList (controlsOf F t)) in
           let n = greatest (controlList (controlsOf F t)) in
-          subst (λ (N : Field). Between m n (rounded (spline N (sideAfter k w) (sideAfter k h) 1024 p q) 37748736)) (our-nets k F)
+          subst (λ (N : Field). Between m n (rounded (spline N (sideAfter k w) (sideAfter k h) 1024 p q) 37748736))
+          (our-nets k F)
           (point-between weights weights-pass m n k F w h 1024 p q t (lit< tt) of-net lies (control-limits (controlsOf F t))),
     )
 
 -- ---- refined numbers stay in the net range
 
-accepted-value : (net : List ℤ) (w h : ℕ) → AcceptedNet net w h → (x : ℕ) → x < 3 → (i j : ℕ) → i < w → j < h → (l : Index) →
+accepted-value : (net : List ℤ) (w h : ℕ) → AcceptedNet net w h → (x : ℕ) → x < 3 → (i j : ℕ) → i < w → j < h →
+    (l : Index) →
     natAbs (field net w x (vertexAt i j) l) ≤ 16777216
 accepted-value net w h a x c i j u v l =
     let s = start w (vertexAt i j) in

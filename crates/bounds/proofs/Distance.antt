@@ -44,7 +44,8 @@ size-multiple : (m : ℕ) (z : ℤ) → natAbs (pos m *ℤ z) ≡ m * natAbs z
 size-multiple m z = size-product (pos m) z
 
 -- a whole number nearest to a quotient, times a factor: m·d times it is at most m·d/2 from m times n
-near-multiple : (m d : ℕ) (n r : ℤ) → 2 * natAbs (pos d *ℤ r -ℤ n) ≤ d → natAbs (pos (2 * (m * d)) *ℤ r -ℤ pos (2 * m) *ℤ n) ≤ m * d
+near-multiple : (m d : ℕ) (n r : ℤ) → 2 * natAbs (pos d *ℤ r -ℤ n) ≤ d →
+    natAbs (pos (2 * (m * d)) *ℤ r -ℤ pos (2 * m) *ℤ n) ≤ m * d
 near-multiple m d n r p =
     let apart : pos (2 * (m * d)) *ℤ r -ℤ pos (2 * m) *ℤ n ≡ pos m *ℤ (pos 2 *ℤ (pos d *ℤ r -ℤ n)) = identity
     (lit (pos 2) ⊗ (var 0 ⊗ var 1) ⊗ var 3 ⊖ lit (pos 2) ⊗ var 0 ⊗ var 2)
@@ -77,7 +78,8 @@ module _ (T : Table) (e : passes T ≡ true) (F : Field) where
   exactNet k = steps (exactBy T) k F
 
   -- 12^k times the net is within (k/2)·12^k of the exact one, which is 12^k times the exact net
-  near-net : (k : ℕ) (v : Vertex) (l : Index) → Near (k * 12 ^ k) (pos (2 * 12 ^ k) *ℤ net k v l) (pos 2 *ℤ exactNet k v l)
+  near-net : (k : ℕ) (v : Vertex) (l : Index) →
+      Near (k * 12 ^ k) (pos (2 * 12 ^ k) *ℤ net k v l) (pos 2 *ℤ exactNet k v l)
   unfolding exactBy
   near-net zero v l =
       let x = pos 2 *ℤ F v l in
@@ -95,10 +97,13 @@ module _ (T : Table) (e : passes T ≡ true) (F : Field) where
       let r = refinedBy T (net k) v l in
       let h = near-net k in
       let sums : natAbs (pos (2 * m) *ℤ x -ℤ pos 2 *ℤ y) ≤ k * m * natAbs (total ws) =
-      near-sums {e = k * m} (2 * m) 2 ws (six (net k A) (net k B)) (six (exactNet k A) (exactNet k B)) (row-not-negative T e n below l)
+      near-sums {e =
+      k * m} (2 * m) 2 ws (six (net k A) (net k B)) (six (exactNet k A) (exactNet k B))
+      (row-not-negative T e n below l)
       (Forall₂·cons (h A one) (Forall₂·cons (h A two) (Forall₂·cons (h A three)
       (Forall₂·cons (h B one) (Forall₂·cons (h B two) (Forall₂·cons (h B three) Forall₂·nil)))))) in
-      let twelve : k * m * natAbs (total ws) ≡ k * m * 12 = ap (λ (z : ℤ). k * m * natAbs z) (row-total T e n below l) in
+      let twelve : k * m * natAbs (total ws)
+      ≡ k * m * 12 = ap (λ (z : ℤ). k * m * natAbs z) (row-total T e n below l) in
       let both : natAbs (pos (2 * (m * 12)) *ℤ r -ℤ pos 2 *ℤ y) ≤ suc k * (m * 12) =
       omega (
         arith,
@@ -110,7 +115,8 @@ module _ (T : Table) (e : passes T ≡ true) (F : Field) where
       subst (λ (z : ℕ). natAbs (pos (2 * z) *ℤ r -ℤ pos 2 *ℤ y) ≤ suc k * z) (sym (pow-suc 12 k)) both
 
 pub net-distance : NetDistance
-net-distance T e F k v l = halved (12 ^ k) (k * 12 ^ k) (steps (refinedBy T) k F v l) (steps (exactBy T) k F v l) (near-net T e F k v l)
+net-distance T e F k v l =
+    halved (12 ^ k) (k * 12 ^ k) (steps (refinedBy T) k F v l) (steps (exactBy T) k F v l) (near-net T e F k v l)
 
 -- ---- the exact spline, for our table
 
@@ -135,14 +141,16 @@ near-splines {e} m n F G w h D p q d a b g near =
     let ws = controlWeights (t .down) s in
     let c = controlList (controlsOf F t) in
     let c′ = controlList (controlsOf G t) in
-    let N : (P l : Index) → Near e (pos m *ℤ F (corner t P) l) (pos n *ℤ G (corner t P) l) = λ P l. near (corner t P) l in
+    let N : (P l : Index) → Near e (pos m *ℤ F (corner t P) l) (pos n *ℤ G (corner t P) l) =
+    λ P l. near (corner t P) l in
     let sums : natAbs (pos m *ℤ weightedSum ws c -ℤ pos n *ℤ weightedSum ws c′) ≤ e * natAbs (total ws) =
     near-sums {e = e} m n ws c c′ (weights-not-negative (t .down) s)
     (Forall₂·cons (N one one) (Forall₂·cons (N one two) (Forall₂·cons (N one three)
     (Forall₂·cons (N two one) (Forall₂·cons (N two two) (Forall₂·cons (N two three)
     (Forall₂·cons (N three one) (Forall₂·cons (N three two) (Forall₂·cons (N three three) Forall₂·nil))))))))) in
     let whole = located D p q t (chosen-lies D w h p q d a b g) .whole in
-    let all : e * natAbs (total ws) ≡ e * (36 * (D * D)) = ap (λ (z : ℤ). e * natAbs z) (shares-total (t .down) s D whole) in
+    let all : e * natAbs (total ws)
+    ≡ e * (36 * (D * D)) = ap (λ (z : ℤ). e * natAbs z) (shares-total (t .down) s D whole) in
     let F-value = chosen-value F D w h p q in
     let G-value = chosen-value G D w h p q in
     subst (λ (x : ℕ). natAbs (pos m *ℤ spline F w h D p q -ℤ pos n *ℤ spline G w h D p q) ≤ x) all
@@ -155,7 +163,8 @@ our-nets k F = λ t. steps (λ G. our-refinement G t) k F
 our-exact-nets : (k : ℕ) (F : Field) → steps (exactBy weights) k F ≡ exactRefinements k F
 our-exact-nets k F = λ t. steps (λ G. our-table G t) k F
 
-our-distance : (k : ℕ) (F : Field) (v : Vertex) (l : Index) → Near (k * 12 ^ k) (pos (2 * 12 ^ k) *ℤ refinements k F v l) (pos 2 *ℤ exactRefinements k F v l)
+our-distance : (k : ℕ) (F : Field) (v : Vertex) (l : Index) →
+    Near (k * 12 ^ k) (pos (2 * 12 ^ k) *ℤ refinements k F v l) (pos 2 *ℤ exactRefinements k F v l)
 our-distance k F v l =
     subst (λ (z : ℤ). natAbs z ≤ k * 12 ^ k)
     (λ t. pos (2 * 12 ^ k) *ℤ our-nets k F t v l -ℤ pos 2 *ℤ our-exact-nets k F t v l)
@@ -177,8 +186,10 @@ module _ (k : ℕ) (F : Field) (w h D p q : ℕ) (d : 0 < D) (a : 2 ≤ w) (b : 
       let v = sideAfter k h in
       let twelve : 12 ^ k ≡ 3 ^ k * 4 ^ k = power-of-product 3 4 k in
       let exact = same-splines k F w h D p q d a b g in
-      let near : natAbs (pos (2 * 12 ^ k) *ℤ x -ℤ pos 2 *ℤ spline (exactRefinements k F) u v D p q) ≤ k * 12 ^ k * (36 * (D * D)) =
-      near-splines (2 * 12 ^ k) 2 (refinements k F) (exactRefinements k F) u v D p q d (side-at-least k w a) (side-at-least k h b) g (our-distance k F) in
+      let near : natAbs (pos (2 * 12 ^ k) *ℤ x -ℤ pos 2 *ℤ spline
+      (exactRefinements k F) u v D p q) ≤ k * 12 ^ k * (36 * (D * D)) =
+      near-splines (2 * 12 ^ k) 2 (refinements k F) (exactRefinements k F) u v D p q d (side-at-least k w a)
+      (side-at-least k h b) g (our-distance k F) in
       let common : pos (2 * 12 ^ k) *ℤ x -ℤ pos 2 *ℤ spline (exactRefinements k F) u v D p q ≡ pos (3 ^ k) *ℤ z =
       (λ t. pos (2 * twelve t) *ℤ x -ℤ pos 2 *ℤ exact t)
       ∙ identity
@@ -218,4 +229,5 @@ point-distance k F w h D p q d a b g =
       near-multiple (4 ^ k) (36 * (D * D)) x r (nearest x (36 * (D * D)) some),
       near-spline k F w h D p q d a b g,
     ) in
-    subst (λ (n : ℕ). 2 * natAbs (pos n *ℤ r -ℤ y) ≤ (k + 1) * n) (same-factor k F w h D p q d a b g) (halved c ((k + 1) * c) r y both)
+    subst (λ (n : ℕ). 2 * natAbs (pos n *ℤ r -ℤ y) ≤ (k + 1) * n) (same-factor k F w h D p q d a b g)
+    (halved c ((k + 1) * c) r y both)

@@ -38,7 +38,8 @@ module _ (T : Table) (e : passes T ≡ true) (F : Field) where
       record { kind = kindBetween (t .down) X Y; A = beginBetween X Y; B = endBetween X Y; mean = child-mean T e F t k P l }
 
   -- so the refined value lies between the values of the corners
-  mean-between : (m n : ℤ) (t : Triangle) (v : Vertex) (l : Index) → MeanOfCorners T F t v l → CornersBetween m n F t → Between m n (refinedBy T F v l)
+  mean-between : (m n : ℤ) (t : Triangle) (v : Vertex) (l : Index) → MeanOfCorners T F t v l → CornersBetween m n F t →
+      Between m n (refinedBy T F v l)
   unfolding refinedBy
   mean-between m n t v l r b =
       let number = kindNumber (r .kind) in
@@ -48,23 +49,35 @@ module _ (T : Table) (e : passes T ≡ true) (F : Field) where
       let below = kind-below (r .kind) in
       subst (λ (z : ℤ). Between m n (rounded z 12)) (sym (r .mean))
       (mean-range 12 (lit< tt) (row-total T e number below l)
-      (all-in-range m n ws (six (F (corner t A)) (F (corner t B))) (row-length T e number below l) (row-not-negative T e number below l)
+      (all-in-range m n ws (six (F (corner t A)) (F (corner t B))) (row-length T e number below l)
+      (row-not-negative T e number below l)
       (b A one, (b A two, (b A three, (b B one, (b B two, (b B three, tt))))))))
 
-  child-between : (m n : ℤ) (t : Triangle) (k : Child) → CornersBetween m n F t → CornersBetween m n (refinedBy T F) (child t k)
+  child-between : (m n : ℤ) (t : Triangle) (k : Child) → CornersBetween m n F t →
+      CornersBetween m n (refinedBy T F) (child t k)
   child-between m n t k b P l = mean-between m n t (corner (child t k) P) l (mean-of-corners t k P l) b
 
 -- ---- points
 
 -- the rounded point lies between the control values of every triangle that has the place
-point-in : (m n : ℤ) (F : Field) (w h D p q : ℕ) (t : Triangle) (s : Index → ℕ) → 0 < D → OfNet w h t → Located D p q t s →
+point-in : (m n : ℤ) (F : Field) (w h D p q : ℕ) (t : Triangle) (s : Index → ℕ) → 0 < D → OfNet w h t →
+    Located D p q t s →
     CornersBetween m n F t → Between m n (rounded (spline F w h D p q) (36 * (D * D)))
 point-in m n F w h D p q t s d g l b =
     let some : 0 < 36 * (D * D) = omega (arith, mul-le-mul d d) in
     subst (λ (z : ℤ). Between m n (rounded z (36 * (D * D)))) (sym (spline-by-shares F w h D p q t s d g l))
     (mean-range (36 * (D * D)) some (shares-total (t .down) s D (l .whole))
-    (all-in-range m n (controlWeights (t .down) s) (controlList (controlsOf F t)) refl (weights-not-negative (t .down) s)
-    (b one one, (b one two, (b one three, (b two one, (b two two, (b two three, (b three one, (b three two, (b three three, tt)))))))))))
+    (all-in-range m n (controlWeights (t .down) s) (controlList (controlsOf F t)) refl
+    (weights-not-negative (t .down) s) (
+      b one one,
+      (
+        b one two,
+        (
+          b one three,
+          (b two one, (b two two, (b two three, (b three one, (b three two, (b three three, tt)))))),
+        ),
+      ),
+    )))
 
 -- the first of k + 1 steps
 steps-first : (R : Field → Field) (k : ℕ) (F : Field) → steps R (suc k) F ≡ steps R k (R F)
@@ -76,7 +89,8 @@ side-first zero n = refl
 side-first (suc k) n = ap refinedSide (side-first k n)
 
 -- after k steps, between the control values of every starting triangle that has the place
-refined-point-in : (T : Table) → passes T ≡ true → (m n : ℤ) (k : ℕ) (F : Field) (w h D p q : ℕ) (t : Triangle) (s : Index → ℕ) →
+refined-point-in : (T : Table) → passes T ≡ true →
+    (m n : ℤ) (k : ℕ) (F : Field) (w h D p q : ℕ) (t : Triangle) (s : Index → ℕ) →
     0 < D → OfNet w h t → Located (D * 2 ^ k) p q t s → CornersBetween m n F t →
     Between m n (rounded (spline (steps (refinedBy T) k F) (sideAfter k w) (sideAfter k h) D p q) (36 * (D * D)))
 refined-point-in T e m n zero F w h D p q t s d g l b =
@@ -105,10 +119,12 @@ corner-at : (u v : ℕ) (t : Triangle) (s : Index → ℕ) → Located 1 u v t s
 corner-at u v t s l = go (t .down) (l .across) (l .up) (decLe 1 (s one)) (decLe 1 (s two))
   where
     here : (down : Bool) (P : Index) → corner (triangleAt (t .column) (t .row) down) P .column ≡ u →
-        corner (triangleAt (t .column) (t .row) down) P .row ≡ v → IsCorner (triangleAt (t .column) (t .row) down) (vertexAt u v)
+        corner (triangleAt (t .column) (t .row) down) P .row ≡ v →
+        IsCorner (triangleAt (t .column) (t .row) down) (vertexAt u v)
     here down P e f = record { which = P; is = λ i. vertexAt (e i) (f i) }
 
-    go : (down : Bool) → u ≡ 1 * t .column + acrossBy down s → v ≡ 1 * t .row + upBy down s → Dec (1 ≤ s one) → Dec (1 ≤ s two) →
+    go : (down : Bool) → u ≡ 1 * t .column + acrossBy down s → v ≡ 1 * t .row + upBy down s → Dec (1 ≤ s one) →
+        Dec (1 ≤ s two) →
         IsCorner (triangleAt (t .column) (t .row) down) (vertexAt u v)
     go false a b (yes h) y = here false one (omega (arith, a, l .whole, h)) (omega (arith, b, l .whole, h))
     go false a b (no g) (yes h) = here false two (omega (arith, a, l .whole, h)) (omega (arith, b, l .whole, h))
@@ -129,7 +145,8 @@ vertex-mean T e F u v t lies l =
 pub vertex-between : VertexBetween
 vertex-between T e m n F u v t lies b l = mean-between T e F m n t (vertexAt u v) l (vertex-mean T e F u v t lies l) b
 
-corners-between : (m n : ℤ) (w h : ℕ) (F : Field) (t : Triangle) → OfNet w h t → NetBetween m n w h F → CornersBetween m n F t
+corners-between : (m n : ℤ) (w h : ℕ) (F : Field) (t : Triangle) → OfNet w h t → NetBetween m n w h F →
+    CornersBetween m n F t
 corners-between m n w h F t g b P = by (t .down) P
   where
     by : (down : Bool) (P : Index) (l : Index) → Between m n (F (corner (triangleAt (t .column) (t .row) down) P) l)
@@ -151,5 +168,6 @@ net-step T e m n w h F a b net i j k l =
 pub net-between : NetStaysBetween
 net-between T e m n zero w h F a b net = net
 net-between T e m n (suc k) w h F a b net =
-    net-step T e m n (sideAfter k w) (sideAfter k h) (steps (refinedBy T) k F) (side-at-least k w a) (side-at-least k h b)
+    net-step T e m n (sideAfter k w) (sideAfter k h) (steps (refinedBy T) k F) (side-at-least k w a)
+    (side-at-least k h b)
     (net-between T e m n k w h F a b net)

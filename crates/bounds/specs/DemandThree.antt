@@ -47,14 +47,16 @@ NearSpline F w h k p q z = (let D = fineEdge k in 2 * natAbs (pos (36 * (D * D))
 -- demand 3: coordinate x (0, 1, 2 for x, y, z) of a place of the grid after k steps
 abbrev pub DemandThree : Type 0
 DemandThree =
-    (net : List ℤ) (w h : ℕ) → AcceptedNet net w h → (k p q x : ℕ) → x < 3 → OnGrid 1024 (sideAfter k w) (sideAfter k h) p q →
+    (net : List ℤ) (w h : ℕ) → AcceptedNet net w h → (k p q x : ℕ) → x < 3 →
+    OnGrid 1024 (sideAfter k w) (sideAfter k h) p q →
     NearSpline (field net w x) w h k p q (refinedCoordinate (field net w x) w h k p q)
     × ((t : Triangle) → OfNet w h t → LiesIn (fineEdge k) p q t → WithinControls (field net w x) t (refinedCoordinate (field net w x) w h k p q))
 
--- worked cases: of 3, -2 and 5; six steps; a net of 7s: after one step 8 is near the spline, and 9 is not, without a step
--- 8 is not; of the net of 2 by 2 whose numbers are the squares, x of the up triangle goes from 0 to 576 and of the down
--- triangle from 81 to 1,089
-limits : (least (pos 3 ∷ negsuc 1 ∷ pos 5 ∷ []) ≡ negsuc 1) × (greatest (pos 3 ∷ negsuc 1 ∷ pos 5 ∷ []) ≡ pos 5) × (fineEdge 6 ≡ 65536)
+-- worked cases: of 3, -2 and 5; six steps; a net of 7s: after one step 8 is near the spline, and 9 is not, without a
+-- step 8 is not; of the net of 2 by 2 whose numbers are the squares, x of the up triangle goes from 0 to 576 and of the
+-- down triangle from 81 to 1,089
+limits : (least (pos 3 ∷ negsuc 1 ∷ pos 5 ∷ []) ≡ negsuc 1) × (greatest (pos 3 ∷ negsuc 1 ∷ pos 5 ∷ []) ≡ pos 5)
+    × (fineEdge 6 ≡ 65536)
 limits = (refl, refl, refl)
 
 abbrev sevens : Field
@@ -77,7 +79,8 @@ within-squares :
     × WithinControls byX (triangleAt 0 0 true) (pos 81)
     × WithinControls byX (triangleAt 0 0 true) (pos 1089)
 unfolding controlTriangle controlPoint
-within-squares = ((leZ-yes tt, leZ-yes tt), (leZ-yes tt, leZ-yes tt), (leZ-yes tt, leZ-yes tt), (leZ-yes tt, leZ-yes tt))
+within-squares =
+    ((leZ-yes tt, leZ-yes tt), (leZ-yes tt, leZ-yes tt), (leZ-yes tt, leZ-yes tt), (leZ-yes tt, leZ-yes tt))
 
 outside-squares :
     (WithinControls byX (triangleAt 0 0 false) (pos 577) → ⊥)

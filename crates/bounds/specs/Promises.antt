@@ -32,7 +32,8 @@ abbrev pub SplineDistance : Type 0
 SplineDistance =
     (k : ℕ) (F : Field) (w h D p q : ℕ) → 0 < D → 2 ≤ w → 2 ≤ h → OnGrid D (sideAfter k w) (sideAfter k h) p q →
     (let E = D * 2 ^ k in
-    2 * natAbs (pos (4 ^ k) *ℤ spline (refinements k F) (sideAfter k w) (sideAfter k h) D p q -ℤ spline F w h E p q) ≤ k * (36 * (E * E)))
+    2 * natAbs (pos (4 ^ k) *ℤ spline (refinements k F) (sideAfter k w)
+    (sideAfter k h) D p q -ℤ spline F w h E p q) ≤ k * (36 * (E * E)))
 
 -- and its rounded point within (k + 1)/2 (`point-distance`)
 abbrev pub PointDistance : Type 0
@@ -66,11 +67,14 @@ pub record MeanOfCorners (T : Table) (F : Field) (t : Triangle) (v : Vertex) (l 
 -- refined net is place (u, v) at edge count 2 (`vertex-mean`); so its rounded values lie between the triangle's
 -- (`vertex-between`)
 abbrev pub VertexMean : Type 0
-VertexMean = (T : Table) → passes T ≡ true → (F : Field) (u v : ℕ) (t : Triangle) → LiesIn 2 u v t → (l : Index) → MeanOfCorners T F t (vertexAt u v) l
+VertexMean =
+    (T : Table) → passes T ≡ true → (F : Field) (u v : ℕ) (t : Triangle) → LiesIn 2 u v t → (l : Index) →
+    MeanOfCorners T F t (vertexAt u v) l
 
 abbrev pub VertexBetween : Type 0
 VertexBetween =
-    (T : Table) → passes T ≡ true → (m n : ℤ) (F : Field) (u v : ℕ) (t : Triangle) → LiesIn 2 u v t → CornersBetween m n F t → (l : Index) →
+    (T : Table) → passes T ≡ true → (m n : ℤ) (F : Field) (u v : ℕ) (t : Triangle) → LiesIn 2 u v t →
+    CornersBetween m n F t → (l : Index) →
     Between m n (refinedBy T F (vertexAt u v) l)
 
 -- the rounded point after k steps lies between the control values of each starting triangle that the place lies in
@@ -90,7 +94,8 @@ NetStaysBetween =
 -- refined numbers of an accepted net stay in the net range (`refined-in-range`)
 abbrev pub RefinedInRange : Type 0
 RefinedInRange =
-    (T : Table) → passes T ≡ true → (net : List ℤ) (w h : ℕ) → AcceptedNet net w h → (k i j x : ℕ) → x < 3 → i < sideAfter k w → j < sideAfter k h →
+    (T : Table) → passes T ≡ true → (net : List ℤ) (w h : ℕ) → AcceptedNet net w h → (k i j x : ℕ) → x < 3 →
+    i < sideAfter k w → j < sideAfter k h →
     (l : Index) → natAbs (steps (refinedBy T) k (field net w x) (vertexAt i j) l) ≤ 16777216
 
 -- worked case: vertex (3, 2) of a refined net lies in the up triangle of cell (1, 1)

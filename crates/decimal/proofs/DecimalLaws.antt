@@ -27,7 +27,8 @@ digits-same (suc s) zero zero a b = refl
 digits-same (suc s) zero (suc n) a b = absurd (omega (arith, b))
 digits-same (suc s) (suc t) zero a b = refl
 digits-same (suc s) (suc t) (suc n) a b =
-    ap (λ (l : List ℕ). l ++ (digit (suc n % 10) ∷ [])) (digits-same s t (suc n / 10) (omega (arith, a)) (omega (arith, b)))
+    ap (λ (l : List ℕ). l ++ (digit (suc n % 10) ∷ []))
+    (digits-same s t (suc n / 10) (omega (arith, a)) (omega (arith, b)))
 
 no-digits : (fuel : ℕ) → digitsOf fuel 0 ≡ []
 unfolding digitsOf
@@ -123,7 +124,8 @@ only-digits = by-digits (λ n. AllDigits (decimal n)) low high
 
     high : (n : ℕ) → 10 ≤ n → AllDigits (decimal (n / 10)) → AllDigits (decimal n)
     high n h before =
-        subst AllDigits (sym (decimal-high n h)) (digits-append (decimal (n / 10)) (digit (n % 10)) before (omega arith) (omega arith))
+        subst AllDigits (sym (decimal-high n h))
+        (digits-append (decimal (n / 10)) (digit (n % 10)) before (omega arith) (omega arith))
 
 -- the first digit of a number is that of n / 10, where there is one
 some-digit : (n : ℕ) → 0 < length (decimal n)
@@ -131,7 +133,8 @@ some-digit n = by (decLt n 10)
   where
     by : Dec (n < 10) → 0 < length (decimal n)
     by (yes l) = omega (arith, ap length (decimal-low n l))
-    by (no l) = omega (arith, ap length (decimal-high n (omega arith)), length-append (decimal (n / 10)) (digit (n % 10) ∷ []))
+    by (no l) =
+        omega (arith, ap length (decimal-high n (omega arith)), length-append (decimal (n / 10)) (digit (n % 10) ∷ []))
 
 pub no-leading-zero : NoLeadingZero
 no-leading-zero = by-digits (λ n. 0 < n → 48 < getD (decimal n) 0 0) low high

@@ -14,15 +14,18 @@ module _ {old : List ℕ} {at : ℕ} {xs mid : List ℕ} {m : ℕ} (first : Stor
   pub stored-then : {ys new : List ℕ} {after : ℕ} → Stored mid m ys new after → Stored old at (xs ++ ys) new after
   stored-then {ys} next =
       record {
-        contents = next .contents ∙ ap (λ (l : List ℕ). sets l m ys) (first .contents) ∙ sets-after old at xs ys (first .place);
+        contents = next .contents ∙ ap (λ (l : List ℕ). sets l m ys) (first .contents)
+            ∙ sets-after old at xs ys (first .place);
         place = omega (arith, next .place, first .place, length-append xs ys);
       }
 
   pub room-then : (ys : List ℕ) → at + length (xs ++ ys) ≤ length old → m + length ys ≤ length mid
-  room-then ys h = omega (arith, h, first .place, length-append xs ys, ap length (first .contents), length-sets old at xs)
+  room-then ys h =
+      omega (arith, h, first .place, length-append xs ys, ap length (first .contents), length-sets old at xs)
 
 -- the same text
-pub stored-as : {old xs ys new : List ℕ} {at after : ℕ} → Stored old at xs new after → xs ≡ ys → Stored old at ys new after
+pub stored-as : {old xs ys new : List ℕ} {at after : ℕ} → Stored old at xs new after → xs ≡ ys →
+    Stored old at ys new after
 stored-as {old} {new = new} {at} {after} s e = subst (λ (l : List ℕ). Stored old at l new after) e s
 
 -- the room that the first of two texts has
@@ -30,7 +33,8 @@ pub room-first : (at : ℕ) (xs ys : List ℕ) {room : ℕ} → at + length (xs 
 room-first at xs ys h = omega (arith, h, length-append xs ys)
 
 -- a line that is stored from the front on is laid over the front, and its end is its length
-pub stored-line : {old line new : List ℕ} {after longest : ℕ} → Stored old 0 line new after → length line ≤ longest → longest ≤ length old →
+pub stored-line : {old line new : List ℕ} {after longest : ℕ} → Stored old 0 line new after → length line ≤ longest →
+    longest ≤ length old →
     (new ≡ over line old) × ((after ≡ length line) × (after ≤ longest))
 stored-line {old} {line} s h k =
     (s .contents ∙ sets-over line old (le-trans h k), (omega (arith, s .place), omega (arith, s .place, h)))

@@ -31,7 +31,8 @@ of-zero : decimal 0 ≡ 48 ∷ []
 unfolding decimal digitsOf
 of-zero = refl
 
-of-counts : (decimal 40 ≡ 52 ∷ 48 ∷ []) × (decimal 1200 ≡ 49 ∷ 50 ∷ 48 ∷ 48 ∷ []) × (decimal 16777216 ≡ 49 ∷ 54 ∷ 55 ∷ 55 ∷ 55 ∷ 50 ∷ 49 ∷ 54 ∷ [])
+of-counts : (decimal 40 ≡ 52 ∷ 48 ∷ []) × (decimal 1200 ≡ 49 ∷ 50 ∷ 48 ∷ 48 ∷ [])
+    × (decimal 16777216 ≡ 49 ∷ 54 ∷ 55 ∷ 55 ∷ 55 ∷ 50 ∷ 49 ∷ 54 ∷ [])
 unfolding decimal digitsOf
 of-counts = (refl, refl, refl)
 

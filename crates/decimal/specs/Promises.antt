@@ -12,7 +12,8 @@ use Rattle.decimal.specs.Decimal.{digit, decimal, signedDecimal}
 
 -- the digits without fuel (`decimal-steps`)
 abbrev pub DecimalSteps : Type 0
-DecimalSteps = (n : ℕ) → (n < 10 → decimal n ≡ digit n ∷ []) × (10 ≤ n → decimal n ≡ decimal (n / 10) ++ (digit (n % 10) ∷ []))
+DecimalSteps =
+    (n : ℕ) → (n < 10 → decimal n ≡ digit n ∷ []) × (10 ≤ n → decimal n ≡ decimal (n / 10) ++ (digit (n % 10) ∷ []))
 
 -- each byte is a digit (`only-digits`)
 abbrev pub AllDigits : List ℕ → Type 0

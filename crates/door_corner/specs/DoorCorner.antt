@@ -79,8 +79,8 @@ cases =
     ∷ (wordOfZ (negsuc 0), expected (95 ∷ 255 ∷ 255 ∷ 255 ∷ []))
     ∷ []
 
--- there are eleven, and every one holds: document 01 has twelve marks, the two of split are not here yet, and the one at
--- (256, 256) is two cases, the exact value and the rounded one
+-- there are eleven, and every one holds: document 01 has twelve marks, the two of split are not here yet, and the one
+-- at (256, 256) is two cases, the exact value and the rounded one
 pub marked-cases : (length cases ≡ 11) × (map (λ (c : Case). c .0) cases ≡ map (λ (c : Case). c .1) cases)
 unfolding cases coordinate spline refinedNet stored grid runs refinement exactRefinement rounded floorQuotient bezierPoints controlTriangle controlPoint wordBytes
 marked-cases = (refl, refl)

@@ -21,10 +21,12 @@ use Rattle.exact.proofs.RoundingLaws.{mean-range}
 
 square-of-sum : (x y : ℤ) → (x +ℤ y) *ℤ (x +ℤ y) ≡ x *ℤ x +ℤ pos 2 *ℤ (x *ℤ y) +ℤ y *ℤ y
 square-of-sum x y =
-    identity ((var 0 ⊕ var 1) ⊗ (var 0 ⊕ var 1)) (var 0 ⊗ var 0 ⊕ lit (pos 2) ⊗ (var 0 ⊗ var 1) ⊕ var 1 ⊗ var 1) (x ∷ y ∷ []) refl
+    identity ((var 0 ⊕ var 1) ⊗ (var 0 ⊕ var 1)) (var 0 ⊗ var 0 ⊕ lit (pos 2) ⊗ (var 0 ⊗ var 1) ⊕ var 1 ⊗ var 1)
+    (x ∷ y ∷ []) refl
 
 difference-of-squares : (x y : ℤ) → x *ℤ x -ℤ y *ℤ y ≡ (x -ℤ y) *ℤ (x +ℤ y)
-difference-of-squares x y = identity (var 0 ⊗ var 0 ⊖ var 1 ⊗ var 1) ((var 0 ⊖ var 1) ⊗ (var 0 ⊕ var 1)) (x ∷ y ∷ []) refl
+difference-of-squares x y =
+    identity (var 0 ⊗ var 0 ⊖ var 1 ⊗ var 1) ((var 0 ⊖ var 1) ⊗ (var 0 ⊕ var 1)) (x ∷ y ∷ []) refl
 
 -- two of the identities by which exact refinement keeps the spline, in twelve variables: nine controls and the gaps x,
 -- y, g between ordered shares
@@ -70,13 +72,31 @@ R = record { next = var 6; third = var 7; before = var 8 }
 
 -- the fine triangle at P: P kept, then the midpoints of P, Q and of R, P
 abbrev keptP : Corner
-keptP = record { next = kept (var 0) (var 1) (var 2); third = kept (var 1) (var 0) (var 2); before = kept (var 2) (var 0) (var 1) }
+keptP =
+    record {
+      next = kept (var 0) (var 1) (var 2);
+      third = kept (var 1) (var 0) (var 2);
+      before =
+          kept (var 2) (var 0) (var 1);
+    }
 
 abbrev midPQ : Corner
-midPQ = record { next = across (var 0) (var 1) (var 3); third = across (var 0) (var 2) (var 4); before = along (var 3) (var 4) }
+midPQ =
+    record {
+      next = across (var 0) (var 1) (var 3);
+      third = across (var 0) (var 2) (var 4);
+      before =
+          along (var 3) (var 4);
+    }
 
 abbrev midRP : Corner
-midRP = record { next = along (var 0) (var 1); third = across (var 6) (var 7) (var 0); before = across (var 6) (var 8) (var 1) }
+midRP =
+    record {
+      next = along (var 0) (var 1);
+      third = across (var 6) (var 7) (var 0);
+      before =
+          across (var 6) (var 8) (var 1);
+    }
 
 -- the gaps are x, y, g in the fine triangle, and 2x + 2y + 3g, y, g in the coarse one
 abbrev cornerFine : Expr
@@ -97,7 +117,13 @@ abbrev middleRP : Corner
 middleRP = record { next = midRP .third; third = midRP .next; before = midRP .before }
 
 abbrev middleQR : Corner
-middleQR = record { next = across (var 3) (var 4) (var 6); third = along (var 6) (var 7); before = across (var 3) (var 5) (var 7) }
+middleQR =
+    record {
+      next = across (var 3) (var 4) (var 6);
+      third = along (var 6) (var 7);
+      before =
+          across (var 3) (var 5) (var 7);
+    }
 
 -- the gaps are x, y, g in the fine triangle, and y, x, y + 2g in the coarse one
 abbrev middleFine : Expr
@@ -114,7 +140,8 @@ middle-triangle ρ = identity middleFine middleCoarse ρ refl
 -- a weighted sum of two numbers of the net range fits 64 bits, and a smaller one fits 32
 wide-sum : (x y : ℤ) → natAbs x ≤ 2 ^ 24 → natAbs y ≤ 2 ^ 24 → SFits w64 (pos 37748736 *ℤ x -ℤ pos 37748736 *ℤ y)
 wide-sum x y h k =
-    fits-by-size w64 (x ∷ y ∷ []) (2 ^ 24 ∷ 2 ^ 24 ∷ []) (lit (pos 37748736) ⊗ var 0 ⊖ lit (pos 37748736) ⊗ var 1) (h, (k, tt)) tt
+    fits-by-size w64 (x ∷ y ∷ []) (2 ^ 24 ∷ 2 ^ 24 ∷ []) (lit (pos 37748736) ⊗ var 0 ⊖ lit (pos 37748736) ⊗ var 1)
+    (h, (k, tt)) tt
 
 narrow-sum : (x y : ℤ) → natAbs x ≤ 2 ^ 24 → natAbs y ≤ 2 ^ 24 → SFits w32 (pos 36 *ℤ x +ℤ pos 36 *ℤ y)
 narrow-sum x y h k =
@@ -125,7 +152,12 @@ narrow-sum x y h k =
 linear-fact : (a b c : ℤ) → a ≤ℤ b → b ≤ℤ c → (pos 3 *ℤ a -ℤ (b +ℤ pos 2)) ≤ℤ (pos 2 *ℤ c)
 linear-fact a b c h k =
     let ρ = a ∷ b ∷ c ∷ [] in
-    omega (integers, expression-parts ρ (lit (pos 3) ⊗ var 0 ⊖ (var 1 ⊕ lit (pos 2))), expression-parts ρ (lit (pos 2) ⊗ var 2))
+    omega (
+      integers,
+      expression-parts ρ (lit (pos 3) ⊗ var 0 ⊖ (var 1 ⊕ lit (pos 2))),
+      expression-parts ρ
+          (lit (pos 2) ⊗ var 2),
+    )
 
 -- ---- a rounded mean, in the range of the values whose weight is not 0
 
@@ -135,4 +167,5 @@ mean-of-two : (m n x y z : ℤ) → m ≤ℤ x → x ≤ℤ n → m ≤ℤ y →
 unfolding total
 mean-of-two m n x y z a b c d =
     mean-range 12 (lit< tt) refl
-    (Forall₂·cons (leZ-yes tt, inr (a, b)) (Forall₂·cons (leZ-yes tt, inr (c, d)) (Forall₂·cons (leZ-yes tt, inl refl) Forall₂·nil)))
+    (Forall₂·cons (leZ-yes tt, inr (a, b))
+    (Forall₂·cons (leZ-yes tt, inr (c, d)) (Forall₂·cons (leZ-yes tt, inl refl) Forall₂·nil)))

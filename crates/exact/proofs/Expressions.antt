@@ -118,7 +118,8 @@ ordered-eq [] (j ∷ n) e = absurd (subst T (sym (ap isEq e)) tt)
 ordered-eq (i ∷ m) [] e = absurd (subst T (sym (ap isEq e)) tt)
 ordered-eq (i ∷ m) (j ∷ n) e = go (ordered-eq m n) (compare i j) refl e
   where
-    go : (ordered m n ≡ Ordering·eq → m ≡ n) → (o : Ordering) → compare i j ≡ o → andThen o (ordered m n) ≡ Ordering·eq → i ∷ m ≡ j ∷ n
+    go : (ordered m n ≡ Ordering·eq → m ≡ n) → (o : Ordering) → compare i j ≡ o →
+        andThen o (ordered m n) ≡ Ordering·eq → i ∷ m ≡ j ∷ n
     go ih Ordering·lt p q = absurd (subst T (sym (ap isEq q)) tt)
     go ih Ordering·eq p q = λ t. eqb→eq i j (subst T (sym (ap isEq p)) tt) t ∷ ih q t
     go ih Ordering·gt p q = absurd (subst T (sym (ap isEq q)) tt)
@@ -144,7 +145,8 @@ module _ (ρ : List ℤ) where
   keep-value c m p = go (isZero c) refl
     where
       go : (b : Bool) → isZero c ≡ b →
-          termsValue (elim b as (λ (x : Bool). Terms) [ true ↦ p | false ↦ term c m p ]) ≡ c *ℤ varsValue m +ℤ termsValue p
+          termsValue (elim b as (λ (x : Bool). Terms) [ true ↦ p | false ↦ term c m p ])
+          ≡ c *ℤ varsValue m +ℤ termsValue p
       go true e =
           sym
           (ap (λ (x : ℤ). x *ℤ varsValue m +ℤ termsValue p) (zero-of c e)
@@ -189,7 +191,8 @@ module _ (ρ : List ℤ) where
   insertVar-value i (j ∷ n) = go (insertVar-value i n) (leb i j)
     where
       go : varsValue (insertVar i n) ≡ at i *ℤ varsValue n → (b : Bool) →
-          varsValue (elim b as (λ (x : Bool). List ℕ) [ true ↦ i ∷ j ∷ n | false ↦ j ∷ insertVar i n ]) ≡ at i *ℤ (at j *ℤ varsValue n)
+          varsValue (elim b as (λ (x : Bool). List ℕ) [ true ↦ i ∷ j ∷ n | false ↦ j ∷ insertVar i n ])
+          ≡ at i *ℤ (at j *ℤ varsValue n)
       go ih true = refl
       go ih false = ap (λ (x : ℤ). at j *ℤ x) ih ∙ *ℤ-left-comm (at j) (at i) (varsValue n)
 
@@ -236,7 +239,8 @@ module _ (ρ : List ℤ) where
   -- the normal form has the expression's value
   normal-value : (a : Expr) → termsValue (normal a) ≡ value ρ a
   unfolding termsValue varsValue
-  normal-value (var i) = +ℤ-idr (pos 1 *ℤ (at i *ℤ pos 1)) ∙ one-times (at i *ℤ pos 1) ∙ *ℤ-comm (at i) (pos 1) ∙ one-times (at i)
+  normal-value (var i) =
+      +ℤ-idr (pos 1 *ℤ (at i *ℤ pos 1)) ∙ one-times (at i *ℤ pos 1) ∙ *ℤ-comm (at i) (pos 1) ∙ one-times (at i)
   normal-value (lit z) = keep-value z [] none ∙ +ℤ-idr (z *ℤ pos 1) ∙ *ℤ-comm z (pos 1) ∙ one-times z
   normal-value (op o a b) =
       combined-value o (normal a) (normal b)

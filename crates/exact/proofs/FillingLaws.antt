@@ -1,7 +1,7 @@
 -- Laws of lists that are filled front to back, run by run. `sets l at vs` (the kit's, `lib.Seq`) is l with vs stored
 -- from `at` on. A loop over the whole of a lent output keeps `out ≡ over (runs n f) old`: `over-none` opens it and
--- `over-more` closes an iteration. An inner loop, which begins at a place, keeps `out ≡ sets old at (runs n f)`: `runs-none`
--- and `runs-more`. A row of runs is one run of the outer loop.
+-- `over-more` closes an iteration. An inner loop, which begins at a place, keeps `out ≡ sets old at (runs n f)`:
+-- `runs-none` and `runs-more`. A row of runs is one run of the outer loop.
 use mathlib.Core.Path.{_≡_, refl, sym, _∙_, ap}
 use mathlib.Core.List.{List, [], _∷_, _++_, append-assoc}
 use Prim.Native.Nat.{ℕ, zero, suc, _+_, _*_, _-_, _<_, _≤_}
@@ -25,7 +25,8 @@ module _ {ℓ} {A : Type ℓ} where
   unfolding runs
   length-runs zero s f h = sym (zero-mul s)
   length-runs (suc n) s f h =
-      length-append (runs n f) (f n) ∙ omega (arith, length-runs n s f (λ i k. h i (omega arith)), h n (omega arith), suc-mul n s)
+      length-append (runs n f) (f n)
+      ∙ omega (arith, length-runs n s f (λ i k. h i (omega arith)), h n (omega arith), suc-mul n s)
 
   -- the number at place r of run i
   pub getD-runs : (n s : ℕ) (f : ℕ → List A) (d : A) → ((i : ℕ) → i < n → length (f i) ≡ s) →
@@ -37,7 +38,8 @@ module _ {ℓ} {A : Type ℓ} where
       long : length (runs n f) ≡ n * s
       long = length-runs n s f (λ j k. h j (omega arith))
 
-      go : (i < n → r < s → getD (runs n f) (i * s + r) d ≡ getD (f i) r d) → Dec (i < n) → getD (runs n f ++ f n) (i * s + r) d ≡ getD (f i) r d
+      go : (i < n → r < s → getD (runs n f) (i * s + r) d ≡ getD (f i) r d) → Dec (i < n) →
+          getD (runs n f ++ f n) (i * s + r) d ≡ getD (f i) r d
       go ih (yes k) = List·getD-append (runs n f) (f n) d (i * s + r) (omega (arith, long, digits-lt k q)) ∙ ih k q
       go ih (no k) =
           let e : i ≡ n = omega arith in
@@ -50,13 +52,15 @@ module _ {ℓ} {A : Type ℓ} where
   unfolding runs
   runs-same zero f g h = refl
   runs-same (suc n) f g h =
-      ap (λ (l : List A). l ++ f n) (runs-same n f g (λ i k. h i (omega arith))) ∙ ap (λ (l : List A). runs n g ++ l) (h n (omega arith))
+      ap (λ (l : List A). l ++ f n) (runs-same n f g (λ i k. h i (omega arith)))
+      ∙ ap (λ (l : List A). runs n g ++ l) (h n (omega arith))
 
   -- a list is the runs of its single elements
   pub runs-of-list : (d : A) (l : List A) (n : ℕ) → n ≤ length l → runs n (λ (i : ℕ). getD l i d ∷ []) ≡ take n l
   unfolding runs
   runs-of-list d l zero h = refl
-  runs-of-list d l (suc n) h = ap (λ (x : List A). x ++ (getD l n d ∷ [])) (runs-of-list d l n (omega arith)) ∙ sym (take-suc l n d h)
+  runs-of-list d l (suc n) h =
+      ap (λ (x : List A). x ++ (getD l n d ∷ [])) (runs-of-list d l n (omega arith)) ∙ sym (take-suc l n d h)
 
   -- ---- storing one after the other
 
@@ -65,13 +69,15 @@ module _ {ℓ} {A : Type ℓ} where
   array-elements d l n e = runs-of-list d l n (omega (arith, e)) ∙ take-all n l (omega (arith, e))
 
   -- stores that follow one another are one store
-  pub sets-append : (xs : List A) (l : List A) (at : ℕ) (ys : List A) → sets (sets l at xs) (at + length xs) ys ≡ sets l at (xs ++ ys)
+  pub sets-append : (xs : List A) (l : List A) (at : ℕ) (ys : List A) →
+      sets (sets l at xs) (at + length xs) ys ≡ sets l at (xs ++ ys)
   sets-append [] l at ys = ap (λ (k : ℕ). sets l k ys) (add-zero at)
   sets-append (x ∷ xs) l at ys =
       ap (λ (k : ℕ). sets (sets (set l at x) (suc at) xs) k ys) (add-suc at (length xs) ∙ sym (suc-add at (length xs)))
       ∙ sets-append xs (set l at x) (suc at) ys
 
-  pub sets-after : (l : List A) (at : ℕ) (xs ys : List A) {m : ℕ} → m ≡ at + length xs → sets (sets l at xs) m ys ≡ sets l at (xs ++ ys)
+  pub sets-after : (l : List A) (at : ℕ) (xs ys : List A) {m : ℕ} → m ≡ at + length xs →
+      sets (sets l at xs) m ys ≡ sets l at (xs ++ ys)
   sets-after l at xs ys e = ap (λ (k : ℕ). sets (sets l at xs) k ys) e ∙ sets-append xs l at ys
 
   pub runs-none : (l : List A) (at : ℕ) (f : ℕ → List A) → l ≡ sets l at (runs 0 f)
@@ -90,11 +96,13 @@ module _ {ℓ} {A : Type ℓ} where
 
   pub sets-over : (result old : List A) → length result ≤ length old → sets old 0 result ≡ over result old
   unfolding over
-  sets-over result old h = sets-eq result old 0 (omega arith) ∙ ap (λ (k : ℕ). result ++ drop k old) (zero-add (length result))
+  sets-over result old h =
+      sets-eq result old 0 (omega arith) ∙ ap (λ (k : ℕ). result ++ drop k old) (zero-add (length result))
 
   pub length-over : (result old : List A) → length result ≤ length old → length (over result old) ≡ length old
   unfolding over
-  length-over result old h = length-append result (drop (length result) old) ∙ omega (arith, length-drop (length result) old)
+  length-over result old h =
+      length-append result (drop (length result) old) ∙ omega (arith, length-drop (length result) old)
 
   pub take-over : (result old : List A) → take (length result) (over result old) ≡ result
   unfolding over
@@ -109,7 +117,8 @@ module _ {ℓ} {A : Type ℓ} where
   over-none old f = refl
 
   -- one run more, where n runs of length s lie over the front
-  pub over-more : (old : List A) (n s : ℕ) (f : ℕ → List A) → ((i : ℕ) → i < n + 1 → length (f i) ≡ s) → (n + 1) * s ≤ length old →
+  pub over-more : (old : List A) (n s : ℕ) (f : ℕ → List A) → ((i : ℕ) → i < n + 1 → length (f i) ≡ s) →
+      (n + 1) * s ≤ length old →
       sets (over (runs n f) old) (n * s) (f n) ≡ over (runs (n + 1) f) old
   over-more old n s f h fits =
       let long : length (runs (n + 1) f) ≡ (n + 1) * s = length-runs (n + 1) s f h in
@@ -120,7 +129,8 @@ module _ {ℓ} {A : Type ℓ} where
       ∙ sets-over (runs (n + 1) f) old (omega arith)
 
   -- what stood in the front before does not matter
-  pub over-over : (result before old : List A) → length before ≤ length result → over result (over before old) ≡ over result old
+  pub over-over : (result before old : List A) → length before ≤ length result →
+      over result (over before old) ≡ over result old
   unfolding over
   over-over result before old h =
       let k = length result - length before in
@@ -157,12 +167,15 @@ module _ {ℓ} {A : Type ℓ} where
       joined : (runs n f ++ f n) ++ after ≡ runs n f ++ (f n ++ after)
       joined = append-assoc (runs n f) (f n) after
 
-      go : (i < n → Begins (f i) (drop (i * s) (runs n f ++ (f n ++ after)))) → Dec (i < n) → Begins (f i) (drop (i * s) ((runs n f ++ f n) ++ after))
+      go : (i < n → Begins (f i) (drop (i * s) (runs n f ++ (f n ++ after)))) → Dec (i < n) →
+          Begins (f i) (drop (i * s) ((runs n f ++ f n) ++ after))
       go before (yes l) = record { rest = before l .rest; whole = ap (drop (i * s)) joined ∙ before l .whole }
       go before (no l) =
           let last : i ≡ n = omega arith in
-          let long : length (runs n f) ≡ i * s = length-runs n s f (λ j m. h j (omega arith)) ∙ ap (λ (m : ℕ). m * s) (sym last) in
+          let long : length (runs n f) ≡ i * s = length-runs n s f (λ j m. h j (omega arith))
+          ∙ ap (λ (m : ℕ). m * s) (sym last) in
           record {
             rest = after;
-            whole = ap (drop (i * s)) joined ∙ drop-at (runs n f) (f n ++ after) (i * s) long ∙ ap (λ (m : ℕ). f m ++ after) (sym last);
+            whole = ap (drop (i * s)) joined ∙ drop-at (runs n f) (f n ++ after) (i * s) long
+                ∙ ap (λ (m : ℕ). f m ++ after) (sym last);
           }

@@ -14,20 +14,51 @@ by-parts c e = (ap (λ (x : ℕ). x * posPart c) e, ap (λ (x : ℕ). x * negPar
 
 pub +ℤ-*ℤ : (a b c : ℤ) → (a +ℤ b) *ℤ c ≡ a *ℤ c +ℤ b *ℤ c
 +ℤ-*ℤ a b c =
-    omega (integers, product-parts (a +ℤ b) c, product-parts a c, product-parts b c, sum-parts (a *ℤ c) (b *ℤ c), by-parts c (sum-parts a b))
+    omega (
+      integers,
+      product-parts (a +ℤ b) c,
+      product-parts a c,
+      product-parts b c,
+      sum-parts (a *ℤ c)
+          (b *ℤ c),
+      by-parts c (sum-parts a b),
+    )
 
 pub *ℤ-+ℤ : (c a b : ℤ) → c *ℤ (a +ℤ b) ≡ c *ℤ a +ℤ c *ℤ b
 *ℤ-+ℤ c a b =
-    omega (integers, product-parts c (a +ℤ b), product-parts c a, product-parts c b, sum-parts (c *ℤ a) (c *ℤ b), by-parts c (sum-parts a b))
+    omega (
+      integers,
+      product-parts c (a +ℤ b),
+      product-parts c a,
+      product-parts c b,
+      sum-parts (c *ℤ a)
+          (c *ℤ b),
+      by-parts c (sum-parts a b),
+    )
 
 pub neg-times : (a b : ℤ) → negℤ a *ℤ b ≡ negℤ (a *ℤ b)
 neg-times a b =
     let n = negation-parts a in
-    omega (integers, product-parts (negℤ a) b, product-parts a b, negation-parts (a *ℤ b), by-parts b (n .0), by-parts b (n .1))
+    omega (
+      integers,
+      product-parts (negℤ a) b,
+      product-parts a b,
+      negation-parts (a *ℤ b),
+      by-parts b (n .0),
+      by-parts b
+          (n .1),
+    )
 
 pub *ℤ-assoc : (a b c : ℤ) → (a *ℤ b) *ℤ c ≡ a *ℤ (b *ℤ c)
 *ℤ-assoc a b c =
-    omega (integers, product-parts (a *ℤ b) c, product-parts a (b *ℤ c), by-parts c (product-parts a b), by-parts a (product-parts b c))
+    omega (
+      integers,
+      product-parts (a *ℤ b) c,
+      product-parts a (b *ℤ c),
+      by-parts c (product-parts a b),
+      by-parts a
+          (product-parts b c),
+    )
 
 pub *ℤ-left-comm : (a b c : ℤ) → a *ℤ (b *ℤ c) ≡ b *ℤ (a *ℤ c)
 *ℤ-left-comm a b c = sym (*ℤ-assoc a b c) ∙ ap (λ (x : ℤ). x *ℤ c) (*ℤ-comm a b) ∙ *ℤ-assoc b a c

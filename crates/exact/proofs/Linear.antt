@@ -23,11 +23,14 @@ side ρ s (op plus a b) = side ρ s a + side ρ s b
 side ρ s (op minus a b) = side ρ s a + side ρ (not s) b
 side ρ s (op times a b) = side ρ true a * side ρ s b + side ρ false a * side ρ (not s) b
 
-pub expression-parts : (ρ : List ℤ) (e : Expr) → posPart (value ρ e) + side ρ false e ≡ negPart (value ρ e) + side ρ true e
+pub expression-parts : (ρ : List ℤ) (e : Expr) →
+    posPart (value ρ e) + side ρ false e ≡ negPart (value ρ e) + side ρ true e
 expression-parts ρ (var i) = omega arith
 expression-parts ρ (lit z) = omega arith
-expression-parts ρ (op plus a b) = omega (arith, sum-parts (value ρ a) (value ρ b), expression-parts ρ a, expression-parts ρ b)
-expression-parts ρ (op minus a b) = omega (arith, difference-parts (value ρ a) (value ρ b), expression-parts ρ a, expression-parts ρ b)
+expression-parts ρ (op plus a b) =
+    omega (arith, sum-parts (value ρ a) (value ρ b), expression-parts ρ a, expression-parts ρ b)
+expression-parts ρ (op minus a b) =
+    omega (arith, difference-parts (value ρ a) (value ρ b), expression-parts ρ a, expression-parts ρ b)
 expression-parts ρ (op times a b) =
     let p = expression-parts ρ a in
     let q = expression-parts ρ b in

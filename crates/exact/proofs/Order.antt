@@ -60,13 +60,16 @@ pub *ℤ-mono : {a b : ℤ} (c : ℤ) → pos 0 ≤ℤ c → a ≤ℤ b → (c *
     vanish (negsuc n) p m = absurd (p .le)
 
 pub *ℤ-mono-< : {a b : ℤ} (n : ℕ) → 0 < n → a <ℤ b → (pos n *ℤ a) <ℤ (pos n *ℤ b)
-*ℤ-mono-< {a} {b} n p h = omega (integers, product-parts (pos n) a, product-parts (pos n) b, mul-lt-mul-of-pos-left (lt-parts h) p)
+*ℤ-mono-< {a} {b} n p h =
+    omega (integers, product-parts (pos n) a, product-parts (pos n) b, mul-lt-mul-of-pos-left (lt-parts h) p)
 
 pub *ℤ-cancel-≤ : {a b : ℤ} (n : ℕ) → 0 < n → (pos n *ℤ a) ≤ℤ (pos n *ℤ b) → a ≤ℤ b
-*ℤ-cancel-≤ {a} {b} n p h = parts-le (le-of-mul-le-mul-left {k = n} (omega (integers, product-parts (pos n) a, product-parts (pos n) b)) p)
+*ℤ-cancel-≤ {a} {b} n p h =
+    parts-le (le-of-mul-le-mul-left {k = n} (omega (integers, product-parts (pos n) a, product-parts (pos n) b)) p)
 
 pub *ℤ-cancel-< : {a b : ℤ} (n : ℕ) → (pos n *ℤ a) <ℤ (pos n *ℤ b) → a <ℤ b
-*ℤ-cancel-< {a} {b} n h = parts-lt (lt-of-mul-lt-mul-left n (omega (integers, product-parts (pos n) a, product-parts (pos n) b)))
+*ℤ-cancel-< {a} {b} n h =
+    parts-lt (lt-of-mul-lt-mul-left n (omega (integers, product-parts (pos n) a, product-parts (pos n) b)))
 
 -- ---- size
 

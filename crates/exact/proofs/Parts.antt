@@ -42,11 +42,13 @@ negation-parts (pos zero) = (refl, refl)
 negation-parts (pos (suc n)) = (refl, refl)
 negation-parts (negsuc n) = (refl, refl)
 
-pub difference-parts : (a b : ℤ) → posPart (a -ℤ b) + (negPart a + posPart b) ≡ negPart (a -ℤ b) + (posPart a + negPart b)
+pub difference-parts : (a b : ℤ) →
+    posPart (a -ℤ b) + (negPart a + posPart b) ≡ negPart (a -ℤ b) + (posPart a + negPart b)
 difference-parts a b = omega (arith, sum-parts a (negℤ b), negation-parts b)
 
 pub product-parts : (a b : ℤ) →
-    posPart (a *ℤ b) + (posPart a * negPart b + negPart a * posPart b) ≡ negPart (a *ℤ b) + (posPart a * posPart b + negPart a * negPart b)
+    posPart (a *ℤ b) + (posPart a * negPart b + negPart a * posPart b)
+    ≡ negPart (a *ℤ b) + (posPart a * posPart b + negPart a * negPart b)
 product-parts (pos a) (pos b) = omega arith
 product-parts (pos a) (negsuc b) = omega (arith, negation-parts (pos (a * suc b)))
 product-parts (negsuc a) (pos b) = omega (arith, negation-parts (pos (suc a * b)))

@@ -27,7 +27,13 @@ floor-high : (n : ℤ) (d : ℕ) → 0 < d → n <ℤ (pos d *ℤ floorQuotient 
 unfolding floorQuotient
 floor-high (pos a) d p = omega (integers, lt-mul-div-succ a p)
 floor-high (negsuc a) d p =
-    omega (integers, sum-parts (pos d *ℤ negsuc (a / d)) (pos d), negation-parts (pos (d * suc (a / d))), mul-div-le a d)
+    omega (
+      integers,
+      sum-parts (pos d *ℤ negsuc (a / d)) (pos d),
+      negation-parts
+          (pos (d * suc (a / d))),
+      mul-div-le a d,
+    )
 
 -- a multiple of d that is less than d above another is at most that one
 at-most : {x y : ℤ} (d : ℕ) → (pos d *ℤ x) <ℤ (pos d *ℤ y +ℤ pos d) → x ≤ℤ y
@@ -51,7 +57,8 @@ double p = omega arith
 rounded-low : (n : ℤ) (d : ℕ) → 0 < d → (pos 2 *ℤ (pos d *ℤ rounded n d)) ≤ℤ (pos 2 *ℤ n +ℤ pos d)
 unfolding rounded
 rounded-low n d p =
-    subst (λ (z : ℤ). z ≤ℤ (pos 2 *ℤ n +ℤ pos d)) (*ℤ-assoc (pos 2) (pos d) (rounded n d)) (floor-low (pos 2 *ℤ n +ℤ pos d) (2 * d) (double p))
+    subst (λ (z : ℤ). z ≤ℤ (pos 2 *ℤ n +ℤ pos d)) (*ℤ-assoc (pos 2) (pos d) (rounded n d))
+    (floor-low (pos 2 *ℤ n +ℤ pos d) (2 * d) (double p))
 
 rounded-high : (n : ℤ) (d : ℕ) → 0 < d → (pos 2 *ℤ n +ℤ pos d) <ℤ (pos 2 *ℤ (pos d *ℤ rounded n d) +ℤ pos 2 *ℤ pos d)
 unfolding rounded
@@ -79,13 +86,29 @@ nearest n d p =
 pub rounded-at-least : {m n : ℤ} (d : ℕ) → 0 < d → (m *ℤ pos d) ≤ℤ n → m ≤ℤ rounded n d
 rounded-at-least {m} {n} d p h =
     let near = pos d *ℤ rounded n d in
-    at-most d (omega (integers, *ℤ-comm m (pos d), nearest n d p, size-parts (near -ℤ n), difference-parts near n, sum-parts near (pos d)))
+    at-most d (omega (
+      integers,
+      *ℤ-comm m (pos d),
+      nearest n d p,
+      size-parts
+          (near -ℤ n),
+      difference-parts near n,
+      sum-parts near (pos d),
+    ))
 
 pub rounded-at-most : {m n : ℤ} (d : ℕ) → 0 < d → n ≤ℤ (m *ℤ pos d) → rounded n d ≤ℤ m
 rounded-at-most {m} {n} d p h =
     let near = pos d *ℤ rounded n d in
     at-most d
-    (omega (integers, *ℤ-comm m (pos d), nearest n d p, size-parts (near -ℤ n), difference-parts near n, sum-parts (pos d *ℤ m) (pos d)))
+    (omega (
+      integers,
+      *ℤ-comm m (pos d),
+      nearest n d p,
+      size-parts (near -ℤ n),
+      difference-parts near n,
+      sum-parts
+          (pos d *ℤ m) (pos d),
+    ))
 
 -- and so a bound for its size
 pub rounded-size : (n : ℤ) (d m : ℕ) → 0 < d → natAbs n ≤ m * d → natAbs (rounded n d) ≤ m
@@ -97,7 +120,8 @@ rounded-size n d m p h =
 
 -- a whole quotient is itself
 pub rounded-whole : (m : ℤ) (d : ℕ) → 0 < d → rounded (m *ℤ pos d) d ≡ m
-rounded-whole m d p = ≤ℤ-antisym (rounded-at-most d p (≤ℤ-refl (m *ℤ pos d))) (rounded-at-least d p (≤ℤ-refl (m *ℤ pos d)))
+rounded-whole m d p =
+    ≤ℤ-antisym (rounded-at-most d p (≤ℤ-refl (m *ℤ pos d))) (rounded-at-least d p (≤ℤ-refl (m *ℤ pos d)))
 
 -- scale: a common factor above 0 does not matter
 pub rounded-scale : (c : ℕ) (n : ℤ) (d : ℕ) → 0 < c → 0 < d → rounded (pos c *ℤ n) (c * d) ≡ rounded n d
@@ -109,8 +133,10 @@ rounded-scale c n d k p =
     let wide = two ⊗ (var 0 ⊗ var 2) in
     let top = identity (var 0 ⊗ (two ⊗ var 1 ⊕ var 2)) (two ⊗ (var 0 ⊗ var 1) ⊕ var 0 ⊗ var 2) ρ refl in
     floor-unique (2 * (c * d)) (double (mul-pos k p))
-    (subst₂ _≤ℤ_ (identity (var 0 ⊗ low) (wide ⊗ var 3) ρ refl) top (*ℤ-mono (pos c) (parts-le (omega arith)) (rounded-low n d p)))
-    (subst₂ _<ℤ_ top (identity (var 0 ⊗ (low ⊕ two ⊗ var 2)) (wide ⊗ var 3 ⊕ wide) ρ refl) (*ℤ-mono-< c k (rounded-high n d p)))
+    (subst₂ _≤ℤ_ (identity (var 0 ⊗ low) (wide ⊗ var 3) ρ refl) top
+    (*ℤ-mono (pos c) (parts-le (omega arith)) (rounded-low n d p)))
+    (subst₂ _<ℤ_ top (identity (var 0 ⊗ (low ⊕ two ⊗ var 2)) (wide ⊗ var 3 ⊕ wide) ρ refl)
+    (*ℤ-mono-< c k (rounded-high n d p)))
 
 -- monotone
 pub rounded-monotone : {m n : ℤ} (d : ℕ) → 0 < d → m ≤ℤ n → rounded m d ≤ℤ rounded n d

@@ -121,7 +121,8 @@ module _ {w : Width} (L : List (Leaf w)) where
   operation o a b p q t =
       subst₂ (λ (x y : ℤ). SFits w (apply o x y)) (sym p) (sym q) (fits-of-size (exact-bound (op o a b)) t)
 
-  stays-parts : (o : Op) (a b : Expr) → T (stays (op o a b)) → T (stays a) × T (stays b) × T (ltb (bound sizes (op o a b)) (2 ^ hbits w))
+  stays-parts : (o : Op) (a b : Expr) → T (stays (op o a b)) →
+      T (stays a) × T (stays b) × T (ltb (bound sizes (op o a b)) (2 ^ hbits w))
   stays-parts o a b t =
       let s = and-yes (stays a && stays b) (ltb (bound sizes (op o a b)) (2 ^ hbits w)) t in
       let u = and-yes (stays a) (stays b) (s .0) in
@@ -140,7 +141,8 @@ module _ {w : Width} (L : List (Leaf w)) where
       ∙ ap (λ (x : ℤ). apply o (value exacts a) x) q
 
   -- what an operation is asked to fit, fits
-  pub operation-fits : (o : Op) (a b : Expr) → T (stays (op o a b)) → SFits w (apply o (toZ w (held a)) (toZ w (held b)))
+  pub operation-fits : (o : Op) (a b : Expr) → T (stays (op o a b)) →
+      SFits w (apply o (toZ w (held a)) (toZ w (held b)))
   operation-fits o a b t =
       let s = stays-parts o a b t in
       operation o a b (reads-exact a (s .0)) (reads-exact b (s .1)) (s .2)

@@ -58,14 +58,16 @@ pub fits-of-size : {w : Width} {z : ℤ} {n : ℕ} → natAbs z ≤ n → T (ltb
 fits-of-size {w} {z} {n} h t =
     record { sfits = omega (arith, mag-parts z, size-parts z, ltb→lt n (2 ^ hbits w) t) }
 
-pub fits-by-size : (w : Width) (ρ : List ℤ) (ns : List ℕ) (a : Expr) → Sized ρ ns → T (ltb (bound ns a) (2 ^ hbits w)) → SFits w (value ρ a)
+pub fits-by-size : (w : Width) (ρ : List ℤ) (ns : List ℕ) (a : Expr) → Sized ρ ns → T (ltb (bound ns a) (2 ^ hbits w)) →
+    SFits w (value ρ a)
 fits-by-size w ρ ns a s t = fits-of-size (value-bound ρ ns a s) t
 
 pub size-of-fits : {w : Width} {z : ℤ} → SFits w z → natAbs z ≤ 2 ^ hbits w
 size-of-fits {w} {z} f = natAbs-le z (f .sfits)
 
 pub fits-between : {w : Width} {z : ℤ} → negℤ (pos (2 ^ hbits w)) ≤ℤ z → z <ℤ pos (2 ^ hbits w) → SFits w z
-fits-between {w} {z} l h = record { sfits = omega (integers, mag-parts z, size-parts z, negation-parts (pos (2 ^ hbits w))) }
+fits-between {w} {z} l h =
+    record { sfits = omega (integers, mag-parts z, size-parts z, negation-parts (pos (2 ^ hbits w))) }
 
 pub fits-low : {w : Width} {z : ℤ} → SFits w z → negℤ (pos (2 ^ hbits w)) ≤ℤ z
 fits-low {w} {z} f = omega (integers, mag-parts z, negation-parts (pos (2 ^ hbits w)))

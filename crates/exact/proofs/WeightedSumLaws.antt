@@ -23,14 +23,16 @@ use Rattle.exact.proofs.Expressions.{Expr, var, lit, _⊕_, _⊖_, _⊗
 -- f is linear in its two arguments together, and so is every weighted sum of what it gives
 linear : (f : ℤ → ℤ → ℤ) → f (pos 0) (pos 0) ≡ pos 0 →
     ((w v u x y : ℤ) → w *ℤ f v u +ℤ f x y ≡ f (w *ℤ v +ℤ x) (w *ℤ u +ℤ y)) →
-    (ws vs us : List ℤ) → length vs ≡ length us → weightedSum ws (zipWith f vs us) ≡ f (weightedSum ws vs) (weightedSum ws us)
+    (ws vs us : List ℤ) → length vs ≡ length us →
+    weightedSum ws (zipWith f vs us) ≡ f (weightedSum ws vs) (weightedSum ws us)
 unfolding weightedSum zipWith
 linear f z s [] vs us e = sym z
 linear f z s (w ∷ ws) [] [] e = sym z
 linear f z s (w ∷ ws) [] (u ∷ us) e = absurd (omega arith)
 linear f z s (w ∷ ws) (v ∷ vs) [] e = absurd (omega arith)
 linear f z s (w ∷ ws) (v ∷ vs) (u ∷ us) e =
-    ap (λ (x : ℤ). w *ℤ f v u +ℤ x) (linear f z s ws vs us (omega arith)) ∙ s w v u (weightedSum ws vs) (weightedSum ws us)
+    ap (λ (x : ℤ). w *ℤ f v u +ℤ x) (linear f z s ws vs us (omega arith))
+    ∙ s w v u (weightedSum ws vs) (weightedSum ws us)
 
 -- a term of each list, over the weight, the two values and the two sums that follow: what `linear` asks of a sum and of
 -- a difference
@@ -43,12 +45,14 @@ second = var 0 ⊗ var 2 ⊕ var 4
 pub sum-of-values : (ws vs us : List ℤ) → length vs ≡ length us →
     weightedSum ws (zipWith _+ℤ_ vs us) ≡ weightedSum ws vs +ℤ weightedSum ws us
 sum-of-values =
-    linear _+ℤ_ refl (λ w v u x y. identity (var 0 ⊗ (var 1 ⊕ var 2) ⊕ (var 3 ⊕ var 4)) (first ⊕ second) (w ∷ v ∷ u ∷ x ∷ y ∷ []) refl)
+    linear _+ℤ_ refl (λ w v u x y. identity (var 0 ⊗ (var 1 ⊕ var 2) ⊕ (var 3 ⊕ var 4)) (first ⊕ second)
+    (w ∷ v ∷ u ∷ x ∷ y ∷ []) refl)
 
 pub difference-of-values : (ws vs us : List ℤ) → length vs ≡ length us →
     weightedSum ws (zipWith _-ℤ_ vs us) ≡ weightedSum ws vs -ℤ weightedSum ws us
 difference-of-values =
-    linear _-ℤ_ refl (λ w v u x y. identity (var 0 ⊗ (var 1 ⊖ var 2) ⊕ (var 3 ⊖ var 4)) (first ⊖ second) (w ∷ v ∷ u ∷ x ∷ y ∷ []) refl)
+    linear _-ℤ_ refl (λ w v u x y. identity (var 0 ⊗ (var 1 ⊖ var 2) ⊕ (var 3 ⊖ var 4)) (first ⊖ second)
+    (w ∷ v ∷ u ∷ x ∷ y ∷ []) refl)
 
 pub multiple-of-values : (c : ℤ) (ws vs : List ℤ) → weightedSum ws (map (λ (v : ℤ). c *ℤ v) vs) ≡ c *ℤ weightedSum ws vs
 unfolding weightedSum
@@ -56,7 +60,8 @@ multiple-of-values c [] vs = sym (*ℤ-zero c)
 multiple-of-values c (w ∷ ws) [] = sym (*ℤ-zero c)
 multiple-of-values c (w ∷ ws) (v ∷ vs) =
     ap (λ (x : ℤ). w *ℤ (c *ℤ v) +ℤ x) (multiple-of-values c ws vs)
-    ∙ identity (var 0 ⊗ (var 1 ⊗ var 2) ⊕ var 1 ⊗ var 3) (var 1 ⊗ (var 0 ⊗ var 2 ⊕ var 3)) (w ∷ c ∷ v ∷ weightedSum ws vs ∷ []) refl
+    ∙ identity (var 0 ⊗ (var 1 ⊗ var 2) ⊕ var 1 ⊗ var 3) (var 1 ⊗ (var 0 ⊗ var 2 ⊕ var 3))
+    (w ∷ c ∷ v ∷ weightedSum ws vs ∷ []) refl
 
 -- weights and values are alike, so what holds of the values holds of the weights too
 pub weightedSum-sym : (ws vs : List ℤ) → weightedSum ws vs ≡ weightedSum vs ws
@@ -111,11 +116,13 @@ abbrev pub AllBetween : ℤ → ℤ → List ℤ → Type 0
 AllBetween m n [] = Unit {0}
 AllBetween m n (v ∷ vs) = ((m ≤ℤ v) × (v ≤ℤ n)) × AllBetween m n vs
 
-pub all-in-range : (m n : ℤ) (ws vs : List ℤ) → length ws ≡ length vs → NotNegative ws → AllBetween m n vs → Forall₂ (InRange m n) ws vs
+pub all-in-range : (m n : ℤ) (ws vs : List ℤ) → length ws ≡ length vs → NotNegative ws → AllBetween m n vs →
+    Forall₂ (InRange m n) ws vs
 all-in-range m n [] [] e h b = Forall₂·nil
 all-in-range m n [] (v ∷ vs) e h b = absurd (omega arith)
 all-in-range m n (w ∷ ws) [] e h b = absurd (omega arith)
-all-in-range m n (w ∷ ws) (v ∷ vs) e h b = Forall₂·cons (h .0, inr (b .0)) (all-in-range m n ws vs (omega arith) (h .1) (b .1))
+all-in-range m n (w ∷ ws) (v ∷ vs) e h b =
+    Forall₂·cons (h .0, inr (b .0)) (all-in-range m n ws vs (omega arith) (h .1) (b .1))
 
 -- the two values differ by at most e
 abbrev pub Near : ℕ → ℤ → ℤ → Type 0
@@ -158,7 +165,14 @@ unfolding weightedSum
 sum-size m n [] vs h k = zero-le
 sum-size m n (w ∷ ws) [] h k = zero-le
 sum-size m n (w ∷ ws) (v ∷ vs) h k =
-    omega (arith, size-sum (w *ℤ v) (weightedSum ws vs), size-product w v, mul-le-mul (h .0) (k .0), sum-size m n ws vs (h .1) (k .1))
+    omega (
+      arith,
+      size-sum (w *ℤ v) (weightedSum ws vs),
+      size-product w v,
+      mul-le-mul (h .0) (k .0),
+      sum-size m n ws vs
+          (h .1) (k .1),
+    )
 
 -- each number is at most as large as the sizes of all, added up
 pub sizes-within : (n : ℕ) (ws : List ℤ) → sizes ws ≤ n → Within n ws
@@ -185,7 +199,8 @@ abbrev pub sumFrom : List ℤ → ℕ → Expr
 sumFrom [] i = lit (pos 0)
 sumFrom (w ∷ ws) i = lit w ⊗ var i ⊕ sumFrom ws (suc i)
 
-pub sum-expression : (ws vs : List ℤ) (i : ℕ) → i + length ws ≤ length vs → weightedSum ws (drop i vs) ≡ value vs (sumFrom ws i)
+pub sum-expression : (ws vs : List ℤ) (i : ℕ) → i + length ws ≤ length vs →
+    weightedSum ws (drop i vs) ≡ value vs (sumFrom ws i)
 unfolding weightedSum
 sum-expression [] vs i h = refl
 sum-expression (w ∷ ws) vs i h =
@@ -196,14 +211,16 @@ sum-expression (w ∷ ws) vs i h =
 
 -- the sums are equal where, at each index, the weight is 0 or the values are equal
 pub sum-same : (ws vs us : List ℤ) → length vs ≡ length us →
-    ((i : ℕ) → (getD ws i (pos 0) ≡ pos 0) ⊎ (getD vs i (pos 0) ≡ getD us i (pos 0))) → weightedSum ws vs ≡ weightedSum ws us
+    ((i : ℕ) → (getD ws i (pos 0) ≡ pos 0) ⊎ (getD vs i (pos 0) ≡ getD us i (pos 0))) →
+    weightedSum ws vs ≡ weightedSum ws us
 unfolding weightedSum
 sum-same [] vs us e h = refl
 sum-same (w ∷ ws) [] [] e h = refl
 sum-same (w ∷ ws) [] (u ∷ us) e h = absurd (omega arith)
 sum-same (w ∷ ws) (v ∷ vs) [] e h = absurd (omega arith)
 sum-same (w ∷ ws) (v ∷ vs) (u ∷ us) e h =
-    ap (λ (x : ℤ). x +ℤ weightedSum ws vs) (⊎-elim (λ z. none z v ∙ sym (none z u)) (λ q. ap (λ (x : ℤ). w *ℤ x) q) (h zero))
+    ap (λ (x : ℤ). x +ℤ weightedSum ws vs)
+    (⊎-elim (λ z. none z v ∙ sym (none z u)) (λ q. ap (λ (x : ℤ). w *ℤ x) q) (h zero))
     ∙ ap (λ (x : ℤ). w *ℤ u +ℤ x) (sum-same ws vs us (omega arith) (λ i. h (suc i)))
   where
     none : w ≡ pos 0 → (x : ℤ) → w *ℤ x ≡ pos 0
@@ -213,7 +230,8 @@ sum-same (w ∷ ws) (v ∷ vs) (u ∷ us) e h =
 
 -- s with the term at i added, and the rest after i, is s with the rest from i on
 pub sum-step : (s : ℤ) (ws vs : List ℤ) (i : ℕ) → i < length ws → i < length vs →
-    (s +ℤ getD ws i (pos 0) *ℤ getD vs i (pos 0)) +ℤ weightedSum (drop (i + 1) ws) (drop (i + 1) vs) ≡ s +ℤ weightedSum (drop i ws) (drop i vs)
+    (s +ℤ getD ws i (pos 0) *ℤ getD vs i (pos 0)) +ℤ weightedSum (drop (i + 1) ws) (drop (i + 1) vs)
+    ≡ s +ℤ weightedSum (drop i ws) (drop i vs)
 unfolding weightedSum
 sum-step s ws vs i h k =
     rw (add-one, drop-cons ws i (pos 0), drop-cons vs i (pos 0))

@@ -14,7 +14,8 @@ unfolding headLine
 head-parts w h = simp append-assoc
 
 pub point-parts : (i j : ℕ) (x y z : ℤ) →
-    (decimal i ++ space) ++ (decimal j ++ space) ++ (signedDecimal x ++ space) ++ (signedDecimal y ++ space) ++ (signedDecimal z ++ lineEnd)
+    (decimal i ++ space) ++ (decimal j ++ space) ++ (signedDecimal x ++ space) ++ (signedDecimal y ++ space)
+    ++ (signedDecimal z ++ lineEnd)
     ≡ pointLine i j x y z
 unfolding pointLine
 point-parts i j x y z = simp append-assoc
@@ -29,7 +30,8 @@ pub head-length : (w h : ℕ) → w < 10 ^ 4 → h < 10 ^ 4 → length (headLine
 unfolding headLine
 head-length w h a b = simp length-append (omega (arith, decimal-length 3 w a, decimal-length 3 h b))
 
-pub point-length : (i j : ℕ) (x y z : ℤ) → i < 10 ^ 4 → j < 10 ^ 4 → natAbs x < 10 ^ 10 → natAbs y < 10 ^ 10 → natAbs z < 10 ^ 10 →
+pub point-length : (i j : ℕ) (x y z : ℤ) → i < 10 ^ 4 → j < 10 ^ 4 → natAbs x < 10 ^ 10 → natAbs y < 10 ^ 10 →
+    natAbs z < 10 ^ 10 →
     length (pointLine i j x y z) ≤ longestLine
 unfolding pointLine
 point-length i j x y z a b c d e =

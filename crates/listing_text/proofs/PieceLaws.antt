@@ -22,8 +22,10 @@ use Rattle.listing_text.specs.Promises.{PiecesList}
 
 -- ---- the point of a vertex
 
-pub vertex-accepted : (net : List ℤ) (w h : ℕ) → AcceptedNet net w h → (i j : ℕ) → i < w → j < h → pointRefusal net w h (1024 * i) (1024 * j) ≡ 0
-vertex-accepted net w h a i j u v = point-not-refused net w h a (1024 * i) (1024 * j) (omega (arith, u), omega (arith, v))
+pub vertex-accepted : (net : List ℤ) (w h : ℕ) → AcceptedNet net w h → (i j : ℕ) → i < w → j < h →
+    pointRefusal net w h (1024 * i) (1024 * j) ≡ 0
+vertex-accepted net w h a i j u v =
+    point-not-refused net w h a (1024 * i) (1024 * j) (omega (arith, u), omega (arith, v))
 
 -- the outcome of an accepted point, and that no point is refused
 module _ (net : List ℤ) (w h p q : ℕ) (none : pointRefusal net w h p q ≡ 0) where
@@ -31,8 +33,12 @@ module _ (net : List ℤ) (w h p q : ℕ) (none : pointRefusal net w h p q ≡ 0
       (x ≡ coordinate net w h p q 0) × (y ≡ coordinate net w h p q 1) × (z ≡ coordinate net w h p q 2)
   unfolding pointAnswer
   point-outcome e =
-      let same = answered (pointRefusal net w h p q) (surfacePoint net w h p q) e .1 in
-      (ap (λ (l : List ℤ). getD l 0 (pos 0)) same, ap (λ (l : List ℤ). getD l 1 (pos 0)) same, ap (λ (l : List ℤ). getD l 2 (pos 0)) same)
+      let same = answered (pointRefusal net w h p q) (surfacePoint net w h p q) e .1 in (
+        ap (λ (l : List ℤ). getD l 0 (pos 0)) same,
+        ap (λ (l : List ℤ). getD l 1 (pos 0)) same,
+        ap
+            (λ (l : List ℤ). getD l 2 (pos 0)) same,
+      )
 
   pub not-refused : {n : ℕ} → (n, []) ≡ pointAnswer net w h p q → ⊥
   unfolding pointAnswer
@@ -50,7 +56,8 @@ pub first-piece : (net : List ℤ) (w h : ℕ) {n : ℕ} → n ≡ 0 → headLin
 unfolding pieceText
 first-piece net w h e = ap (pieceText net w h) (sym e)
 
-pub vertex-piece : (net : List ℤ) (w h n : ℕ) → 0 < n → vertexLine net w h ((n - 1) % w) ((n - 1) / w) ≡ pieceText net w h n
+pub vertex-piece : (net : List ℤ) (w h n : ℕ) → 0 < n →
+    vertexLine net w h ((n - 1) % w) ((n - 1) / w) ≡ pieceText net w h n
 unfolding pieceText
 vertex-piece net w h zero k = absurd (omega arith)
 vertex-piece net w h (suc n) k =

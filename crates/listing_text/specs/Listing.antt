@@ -33,7 +33,8 @@ headLine w h = netWord ++ space ++ decimal w ++ space ++ decimal h ++ lineEnd
 -- 'column, row, x, y, z'
 unfoldable pub pointLine : ℕ → ℕ → ℤ → ℤ → ℤ → List ℕ
 pointLine i j x y z =
-    decimal i ++ space ++ decimal j ++ space ++ signedDecimal x ++ space ++ signedDecimal y ++ space ++ signedDecimal z ++ lineEnd
+    decimal i ++ space ++ decimal j ++ space ++ signedDecimal x ++ space ++ signedDecimal y ++ space ++ signedDecimal z
+    ++ lineEnd
 
 -- '"refused", a space and the number'
 unfoldable pub refusalLine : ℕ → List ℕ
@@ -65,8 +66,8 @@ pieceText net w h (suc n) = vertexLine net w h (n % w) (n / w)
 
 -- worked cases: the first lines of nets of 3 by 3 and of 3 by 15, a line of document 01's listing, a line with numbers
 -- below zero, a longest line, and the line of refusal 12; piece 6 of a net of 3 by 3 is the line of vertex (2, 1), and
--- piece 4 of a net of 2 by 3 that of vertex (1, 1); the line of vertex (1, 2) of the net of 2 by 3 whose numbers are the
--- squares. `DoorListing.antt` has the whole listing of the door corner.
+-- piece 4 of a net of 2 by 3 that of vertex (1, 1); the line of vertex (1, 2) of the net of 2 by 3 whose numbers are
+-- the squares. `DoorListing.antt` has the whole listing of the door corner.
 head-of-three : headLine 3 3 ≡ 110 ∷ 101 ∷ 116 ∷ 32 ∷ 51 ∷ 32 ∷ 51 ∷ 10 ∷ []
 unfolding headLine decimal digitsOf
 head-of-three = refl
@@ -77,12 +78,14 @@ unfolding headLine decimal digitsOf
 width-first = refl
 
 -- 1 0 600 0 40
-second-vertex : pointLine 1 0 (pos 600) (pos 0) (pos 40) ≡ 49 ∷ 32 ∷ 48 ∷ 32 ∷ 54 ∷ 48 ∷ 48 ∷ 32 ∷ 48 ∷ 32 ∷ 52 ∷ 48 ∷ 10 ∷ []
+second-vertex : pointLine 1 0 (pos 600) (pos 0) (pos 40) ≡ 49 ∷ 32 ∷ 48 ∷ 32 ∷ 54 ∷ 48 ∷ 48 ∷ 32 ∷ 48 ∷ 32 ∷ 52 ∷ 48
+    ∷ 10 ∷ []
 unfolding pointLine signedDecimal decimal digitsOf
 second-vertex = refl
 
 -- 12 3 -5 -40 0
-numbers-below-zero : pointLine 12 3 (negsuc 4) (negsuc 39) (pos 0) ≡ 49 ∷ 50 ∷ 32 ∷ 51 ∷ 32 ∷ 45 ∷ 53 ∷ 32 ∷ 45 ∷ 52 ∷ 48 ∷ 32 ∷ 48 ∷ 10 ∷ []
+numbers-below-zero : pointLine 12 3 (negsuc 4) (negsuc 39) (pos 0) ≡ 49 ∷ 50 ∷ 32 ∷ 51 ∷ 32 ∷ 45 ∷ 53 ∷ 32 ∷ 45 ∷ 52
+    ∷ 48 ∷ 32 ∷ 48 ∷ 10 ∷ []
 unfolding pointLine signedDecimal decimal digitsOf
 numbers-below-zero = refl
 

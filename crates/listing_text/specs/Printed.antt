@@ -31,13 +31,14 @@ abbrev pub listOutcome : ListAnswer → ℕ × List ℕ
 listOutcome (listed.Net w h) = (0, w ∷ h ∷ [])
 listOutcome (listed.Refused n) = (n, [])
 
--- 'reads a net file .., refines once': the first fault of reading into a buffer of `netRoom` numbers, and then of refining
--- into one of `outRoom`; one step needs no scratch
+-- 'reads a net file .., refines once': the first fault of reading into a buffer of `netRoom` numbers, and then of
+-- refining into one of `outRoom`; one step needs no scratch
 abbrev pub listRefusal : List ℕ → ℕ → ℕ → ℕ
 listRefusal file netRoom outRoom =
     (let w = fileWidth file in
     let h = fileHeight file in
-    firstFault (readFaults file (shortFor file netRoom) ++ (sizeFaults w h 1 ++ netFaults (fileNumbers file) w h (tooShort w h 1 outRoom 0))))
+    firstFault (readFaults file (shortFor file netRoom)
+    ++ (sizeFaults w h 1 ++ netFaults (fileNumbers file) w h (tooShort w h 1 outRoom 0))))
 
 -- the file's net, refined once
 abbrev pub refinedFile : List ℕ → List ℤ
@@ -48,22 +49,25 @@ abbrev pub stepRefusal : ℕ → ℕ → ℕ → ℕ
 stepRefusal w h outRoom = firstFault (sizeFaults w h 1 ++ (tooShort w h 1 outRoom 0, 5) ∷ [])
 
 abbrev pub listAnswer : List ℕ → ℕ → ℕ → ℕ × List ℕ
-listAnswer file netRoom outRoom = answer (listRefusal file netRoom outRoom) (refinedSide (fileWidth file) ∷ refinedSide (fileHeight file) ∷ [])
+listAnswer file netRoom outRoom =
+    answer (listRefusal file netRoom outRoom) (refinedSide (fileWidth file) ∷ refinedSide (fileHeight file) ∷ [])
 
 -- an answer with a size comes with an accepted net of that size
 abbrev pub ReadyToList : ListAnswer → List ℤ → Type 0
 ReadyToList (listed.Net w h) net = AcceptedNet net w h
 ReadyToList (listed.Refused n) net = Unit {0}
 
--- what refining a file answers and leaves: of the file, the buffers for its net and for the refined net before the call;
--- and of the answer and the two buffers after it. A refusal changes neither.
+-- what refining a file answers and leaves: of the file, the buffers for its net and for the refined net before the
+-- call; and of the answer and the two buffers after it. A refusal changes neither.
 pub record RefineFileContract (file : List ℕ) (net refined : List ℤ) (r : ListAnswer) (netAfter refinedAfter : List ℤ) : Type 0 where
   pub answered : listOutcome r ≡ listAnswer file (length net) (length refined)
   pub netRead : netAfter ≡ outputAfter (listRefusal file (length net) (length refined)) (fileNumbers file) net
-  pub netRefined : refinedAfter ≡ outputAfter (listRefusal file (length net) (length refined)) (refinedFile file) refined
+  pub netRefined : refinedAfter
+      ≡ outputAfter (listRefusal file (length net) (length refined)) (refinedFile file) refined
   pub ready : ReadyToList r refinedAfter
 
--- the buffers that the program lends: its whole input of at most so many bytes, of which `count` were read, and two nets
+-- the buffers that the program lends: its whole input of at most so many bytes, of which `count` were read, and two
+-- nets
 pub record Buffers (input : List ℕ) (count : ℕ) (net refined : List ℤ) : Type 0 where
   pub inputLength : length input ≡ inputSize
   pub inputRead : count ≤ inputSize
@@ -80,9 +84,9 @@ fileText file =
 abbrev pub printed : List ℕ → List ℕ
 printed input = fileText (take inputSize input)
 
--- worked cases: document 01's sizes; outcomes of answers; an empty input prints "refused 7". Of the file of the net of 2
--- by 3 whose numbers are the squares: room for its net and for the 3 by 5, a number too few for either, and a fault of
--- reading before one of refining. `door-input` in `door_corner` has the door corner's file.
+-- worked cases: document 01's sizes; outcomes of answers; an empty input prints "refused 7". Of the file of the net of
+-- 2 by 3 whose numbers are the squares: room for its net and for the 3 by 5, a number too few for either, and a fault
+-- of reading before one of refining. `door-input` in `door_corner` has the door corner's file.
 buffers : (inputSize ≡ 65536) × (bufferSize ≡ 16384)
 buffers = (refl, refl)
 

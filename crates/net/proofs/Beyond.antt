@@ -34,13 +34,16 @@ module _ {ℓ} {A : Type ℓ} where
 pub cut-short : (net : List ℤ) (w h : ℕ) → shortNet net w h ≡ shortNet (cut net w h) w h
 cut-short net w h = by (ltb (length net) (numbers w h)) refl
   where
-    by : (b : Bool) → ltb (length net) (numbers w h) ≡ b → ltb (length net) (numbers w h) ≡ ltb (length (take (numbers w h) net)) (numbers w h)
+    by : (b : Bool) → ltb (length net) (numbers w h) ≡ b →
+        ltb (length net) (numbers w h) ≡ ltb (length (take (numbers w h) net)) (numbers w h)
     by true e =
         let l = ltb-true (length net) (numbers w h) e in
-        e ∙ sym (lt-ltb (length (take (numbers w h) net)) (numbers w h) (omega (arith, l, length-take (numbers w h) net)))
+        e ∙ sym (lt-ltb (length (take (numbers w h) net)) (numbers w h)
+        (omega (arith, l, length-take (numbers w h) net)))
     by false e =
         let l = ltb-false (length net) (numbers w h) e in
-        e ∙ sym (le-ltb (length (take (numbers w h) net)) (numbers w h) (omega (arith, l, length-take (numbers w h) net)))
+        e ∙ sym (le-ltb (length (take (numbers w h) net)) (numbers w h)
+        (omega (arith, l, length-take (numbers w h) net)))
 
 pub cut-beyond : (net : List ℤ) (w h : ℕ) → netBeyond net w h ≡ netBeyond (cut net w h) w h
 unfolding netBeyond
@@ -62,7 +65,8 @@ pub cut-field : (net : List ℤ) (w h : ℕ) (v : Vertex) → start w v + stride
     field net w x v k ≡ field (cut net w h) w x v k
 cut-field net w h v e k x b =
     field-number net w v k x b
-    ∙ sym (getD-take (numbers w h) net (start w v + (pointStride * rank k + x)) (pos 0) (omega (arith, e, within-record k x b)))
+    ∙ sym (getD-take (numbers w h) net (start w v + (pointStride * rank k + x)) (pos 0)
+    (omega (arith, e, within-record k x b)))
     ∙ sym (field-number (cut net w h) w v k x b)
 
 -- ---- the vertex part and its companion

@@ -115,7 +115,8 @@ clear-run (suc n) f k i h =
     go before last (no l) = subst (λ (j : ℕ). Clear (f j)) (omega arith) last
 
 -- a fault of the first runs counts, and so the first run with a fault
-pub fault-in-front : (m n : ℕ) (f : ℕ → List Fault) {r : ℕ} → m ≤ n → r ≡ firstFault (runs m f) → (r ≡ 0 → ⊥) → r ≡ firstFault (runs n f)
+pub fault-in-front : (m n : ℕ) (f : ℕ → List Fault) {r : ℕ} → m ≤ n → r ≡ firstFault (runs m f) → (r ≡ 0 → ⊥) →
+    r ≡ firstFault (runs n f)
 unfolding runs
 fault-in-front m zero f h e there =
     let none : m ≡ 0 = omega arith in
@@ -130,9 +131,11 @@ fault-in-front m (suc n) f {r} h e there = go (λ l. fault-in-front m n f l e th
         let b = before (omega arith) in
         b ∙ fault-before (runs n f) (f n) (λ z. there (b ∙ z))
 
-pub fault-in-runs : (n : ℕ) (f : ℕ → List Fault) (i : ℕ) {r : ℕ} → i < n → Clear (runs i f) → r ≡ firstFault (f i) → (r ≡ 0 → ⊥) → r ≡ firstFault (runs n f)
+pub fault-in-runs : (n : ℕ) (f : ℕ → List Fault) (i : ℕ) {r : ℕ} → i < n → Clear (runs i f) → r ≡ firstFault (f i) →
+    (r ≡ 0 → ⊥) → r ≡ firstFault (runs n f)
 fault-in-runs n f i h k e there =
-    fault-in-front (i + 1) n f (omega arith) (e ∙ fault-after (runs i f) (f i) k ∙ ap firstFault (sym (runs-suc i f))) there
+    fault-in-front (i + 1) n f (omega arith)
+    (e ∙ fault-after (runs i f) (f i) k ∙ ap firstFault (sym (runs-suc i f))) there
 
 pub numbered-runs : (n : ℕ) (f : ℕ → List Fault) → ((i : ℕ) → Numbered (f i)) → Numbered (runs n f)
 unfolding runs
@@ -148,7 +151,8 @@ module _ {ℓ} {A : Type ℓ} (r : ℕ) (values : List A) where
       let z : r ≡ 0 = λ t. sym e t .0 in
       (z, (λ t. e t .1) ∙ ap (λ (n : ℕ). cond (accepted n) values []) z)
 
-  pub not-accepted : {n : ℕ} → 0 < length values → _≡_ {A = ℕ × List A} (n, []) (r, cond (accepted r) values []) → r ≡ 0 → ⊥
+  pub not-accepted : {n : ℕ} → 0 < length values → _≡_ {A = ℕ × List A} (n, []) (r, cond (accepted r) values []) →
+      r ≡ 0 → ⊥
   not-accepted k e z =
       let none : [] ≡ values = (λ t. e t .1) ∙ ap (λ (n : ℕ). cond (accepted n) values []) z in
       omega (arith, ap length none, k)

@@ -40,13 +40,16 @@ module _ (n : ℕ) (f : Vertex → List ℤ) (e : (v : Vertex) → length (f v) 
       ∙ getD-runs w n (λ m. f (vertexAt m j)) (pos 0) (λ m k. e (vertexAt m j)) i r a c
 
 -- records that agree on the vertices of the grid
-pub grid-same : (f g : Vertex → List ℤ) (w h : ℕ) → ((i j : ℕ) → i < w → j < h → f (vertexAt i j) ≡ g (vertexAt i j)) → grid f w h ≡ grid g w h
+pub grid-same : (f g : Vertex → List ℤ) (w h : ℕ) → ((i j : ℕ) → i < w → j < h → f (vertexAt i j) ≡ g (vertexAt i j)) →
+    grid f w h ≡ grid g w h
 unfolding grid
 grid-same f g w h e =
-    runs-same h (gridRow f w) (gridRow g w) (λ j b. runs-same w (λ i. f (vertexAt i j)) (λ i. g (vertexAt i j)) (λ i a. e i j a b))
+    runs-same h (gridRow f w) (gridRow g w)
+    (λ j b. runs-same w (λ i. f (vertexAt i j)) (λ i. g (vertexAt i j)) (λ i a. e i j a b))
 
 -- the records of a list, part by part, are its first numbers
-pub grid-of-parts : (n w h : ℕ) (l : List ℤ) → grid (λ v. take n (drop (recordStart n w v) l)) w h ≡ take (n * (w * h)) l
+pub grid-of-parts : (n w h : ℕ) (l : List ℤ) →
+    grid (λ v. take n (drop (recordStart n w v) l)) w h ≡ take (n * (w * h)) l
 unfolding grid
 grid-of-parts n w h l =
     let row : ℕ → List ℤ = λ j. drop (j * (w * n)) l in
@@ -59,6 +62,7 @@ grid-of-parts n w h l =
     ∙ ap (λ (m : ℕ). take m l) (all-rows n w h)
 
 -- a grid is in range where each record is
-pub any-grid : (f : Vertex → List ℤ) (w h : ℕ) → ((i j : ℕ) → i < w → j < h → anyBeyond (f (vertexAt i j)) ≡ false) → anyBeyond (grid f w h) ≡ false
+pub any-grid : (f : Vertex → List ℤ) (w h : ℕ) → ((i j : ℕ) → i < w → j < h → anyBeyond (f (vertexAt i j)) ≡ false) →
+    anyBeyond (grid f w h) ≡ false
 unfolding grid
 any-grid f w h e = any-runs h (gridRow f w) (λ j b. any-runs w (λ i. f (vertexAt i j)) (λ i a. e i j a b))

@@ -77,7 +77,8 @@ vertex-lies net w h i j v =
     (omega (arith, ends, v .long), omega (arith, ends, few))
 
 -- the vertex part where it is accepted, and where it is refused
-pub accepted-part : (net : List ℤ) (w h i j : ℕ) → vertexRefusal net w h i j ≡ 0 → vertexNumbers net w (vertexAt i j) ≡ vertexPart net w h i j
+pub accepted-part : (net : List ℤ) (w h i j : ℕ) → vertexRefusal net w h i j ≡ 0 →
+    vertexNumbers net w (vertexAt i j) ≡ vertexPart net w h i j
 unfolding vertexPart
 accepted-part net w h i j e = when-accepted (vertexRefusal net w h i j) (vertexNumbers net w (vertexAt i j)) [] e
 
@@ -117,7 +118,8 @@ within-record two x h = omega (arith, h)
 within-record three x h = omega (arith, h)
 
 -- the numbers of a vertex in range
-pub field-size : (net : List ℤ) (w : ℕ) (v : Vertex) → anyBeyond (vertexNumbers net w v) ≡ false → start w v + stride ≤ length net →
+pub field-size : (net : List ℤ) (w : ℕ) (v : Vertex) → anyBeyond (vertexNumbers net w v) ≡ false →
+    start w v + stride ≤ length net →
     (k : Index) (x : ℕ) → x < 3 → natAbs (field net w x v k) ≤ 16777216
 field-size net w v e l k x h =
     let at = pointStride * rank k + x in

@@ -26,7 +26,8 @@ beyond-above (pos n) h = refl
 beyond-above (negsuc n) h = sym (le-ltb _ _ (suc-le-suc (leb→le n 16777215 (h .le))))
 
 -- the numbers from place i on: the one at i, and those after it
-pub any-from : (l : List ℤ) (i : ℕ) → i < length l → anyBeyond (drop i l) ≡ (beyond (getD l i (pos 0)) || anyBeyond (drop (i + 1) l))
+pub any-from : (l : List ℤ) (i : ℕ) → i < length l →
+    anyBeyond (drop i l) ≡ (beyond (getD l i (pos 0)) || anyBeyond (drop (i + 1) l))
 any-from l i h = simp unary-clauses (ap anyBeyond (drop-cons l i (pos 0) h))
 
 -- in a list in range, each number is
@@ -48,20 +49,25 @@ pub any-runs : (n : ℕ) (f : ℕ → List ℤ) → ((i : ℕ) → i < n → any
 unfolding runs
 any-runs zero f h = refl
 any-runs (suc n) f h =
-    any-append (runs n f) (f n) ∙ sym (or-no (anyBeyond (runs n f)) (anyBeyond (f n)) (any-runs n f (λ i k. h i (omega arith))) (sym (h n (omega arith))))
+    any-append (runs n f) (f n)
+    ∙ sym (or-no (anyBeyond (runs n f)) (anyBeyond (f n)) (any-runs n f (λ i k. h i (omega arith)))
+    (sym (h n (omega arith))))
 
 -- the first numbers of a list: those of a shorter front, and those after it
-pub any-front : (l : List ℤ) (a b : ℕ) → anyBeyond (take (a + b) l) ≡ (anyBeyond (take a l) || anyBeyond (take b (drop a l)))
+pub any-front : (l : List ℤ) (a b : ℕ) →
+    anyBeyond (take (a + b) l) ≡ (anyBeyond (take a l) || anyBeyond (take b (drop a l)))
 any-front l a b = ap anyBeyond (take-add a b l) ∙ any-append (take a l) (take b (drop a l))
 
 pub any-longer : (l : List ℤ) (a b : ℕ) → a ≤ b → anyBeyond (take a l) ≡ true → true ≡ anyBeyond (take b l)
 any-longer l a b h e =
     let rest : a + (b - a) ≡ b = omega arith in
-    or-yes (anyBeyond (take a l)) (anyBeyond (take (b - a) (drop a l))) e ∙ sym (any-front l a (b - a)) ∙ ap (λ (k : ℕ). anyBeyond (take k l)) rest
+    or-yes (anyBeyond (take a l)) (anyBeyond (take (b - a) (drop a l))) e ∙ sym (any-front l a (b - a))
+    ∙ ap (λ (k : ℕ). anyBeyond (take k l)) rest
 
 -- ---- a whole net: any part of the numbers of a net in range is, and a net is in range where its first numbers are
 
-pub part-in-range : (net : List ℤ) (w h at m : ℕ) → netBeyond net w h ≡ false → at + m ≤ numbers w h → anyBeyond (take m (drop at net)) ≡ false
+pub part-in-range : (net : List ℤ) (w h at m : ℕ) → netBeyond net w h ≡ false → at + m ≤ numbers w h →
+    anyBeyond (take m (drop at net)) ≡ false
 unfolding netBeyond
 part-in-range net w h at m e a =
     let n = numbers w h in
@@ -70,6 +76,7 @@ part-in-range net w h at m e a =
     let front = or-none (anyBeyond (take (at + m) net)) _ (sym (any-front net (at + m) (n - (at + m))) ∙ whole) .0 in
     or-none (anyBeyond (take at net)) _ (sym (any-front net at m) ∙ front) .1
 
-pub front-in-range : (net : List ℤ) (w h : ℕ) {l : List ℤ} → take (numbers w h) net ≡ l → anyBeyond l ≡ false → netBeyond net w h ≡ false
+pub front-in-range : (net : List ℤ) (w h : ℕ) {l : List ℤ} → take (numbers w h) net ≡ l → anyBeyond l ≡ false →
+    netBeyond net w h ≡ false
 unfolding netBeyond
 front-in-range net w h e f = ap anyBeyond e ∙ f

@@ -143,7 +143,8 @@ controlPoint net at = number net at ∷ number net (at + 1) ∷ number net (at +
 -- the control triangle of a vertex, an array of three arrays of three numbers
 unfoldable pub controlTriangle : List ℤ → ℕ → Vertex → List (List ℤ)
 controlTriangle net w v =
-    controlPoint net (start w v) ∷ controlPoint net (start w v + pointStride) ∷ controlPoint net (start w v + 2 * pointStride) ∷ []
+    controlPoint net (start w v) ∷ controlPoint net (start w v + pointStride)
+    ∷ controlPoint net (start w v + 2 * pointStride) ∷ []
 
 -- number x (0, 1, 2 for x, y, z) of control k of a control triangle
 abbrev pub entry : List (List ℤ) → Index → ℕ → ℤ
@@ -164,7 +165,8 @@ squares (suc n) = squares n ++ pos (n * n) ∷ []
 -- begins at number 81; in a grid of 3 by 2 with two numbers a vertex, its column and its row, vertex (2, 1) begins at
 -- number 10; of a net of width 2, vertex (0, 1) has the numbers 18 to 26, and y of its control 2 is number 22
 steps-close :
-    (stepColumn one +ℤ stepColumn two +ℤ stepColumn three ≡ pos 0) × (stepRow one +ℤ stepRow two +ℤ stepRow three ≡ pos 0)
+    (stepColumn one +ℤ stepColumn two +ℤ stepColumn three ≡ pos 0)
+    × (stepRow one +ℤ stepRow two +ℤ stepRow three ≡ pos 0)
 steps-close = (refl, refl)
 
 up-corners :

@@ -72,8 +72,8 @@ unfoldable pub vertexPart : List ℤ → ℕ → ℕ → ℕ → ℕ → List �
 vertexPart net w h i j =
     cond (accepted (vertexRefusal net w h i j)) (vertexNumbers net w (vertexAt i j)) []
 
--- worked cases: document 01's examples of 1, 2 and 3, the limits that are accepted, each side too small and too large, a
--- missing vertex of a short net, the last vertex of 3 by 2 and a row that it does not have, an output that is refused
+-- worked cases: document 01's examples of 1, 2 and 3, the limits that are accepted, each side too small and too large,
+-- a missing vertex of a short net, the last vertex of 3 by 2 and a row that it does not have, an output that is refused
 -- and one that is written, and a part
 examples :
     (vertexRefusal [] 1 2 0 0 ≡ 1)
@@ -84,15 +84,18 @@ examples :
     × (vertexRefusal (replicate (numbers 3 2) (pos 0)) 3 2 1 2 ≡ 6)
 examples = (refl, refl, refl, refl, refl, refl)
 
-sizes : (badSize 1025 1025 ≡ false) × (badSize 1026 2 ≡ true) × (badSize 2 1026 ≡ true) × (badSize 1 2 ≡ true) × (badSize 2 1 ≡ true)
+sizes : (badSize 1025 1025 ≡ false) × (badSize 1026 2 ≡ true) × (badSize 2 1026 ≡ true) × (badSize 1 2 ≡ true)
+    × (badSize 2 1 ≡ true)
 sizes = (refl, refl, refl, refl, refl)
 
-outputs : (_≡_ {A = List ℕ} (outputAfter 5 (7 ∷ []) (1 ∷ 2 ∷ [])) (1 ∷ 2 ∷ [])) × (_≡_ {A = List ℕ} (outputAfter 0 (7 ∷ []) (1 ∷ 2 ∷ [])) (7 ∷ 2 ∷ []))
+outputs : (_≡_ {A = List ℕ} (outputAfter 5 (7 ∷ []) (1 ∷ 2 ∷ [])) (1 ∷ 2 ∷ []))
+    × (_≡_ {A = List ℕ} (outputAfter 0 (7 ∷ []) (1 ∷ 2 ∷ [])) (7 ∷ 2 ∷ []))
 unfolding over
 outputs = (refl, refl)
 
 limits :
-    (beyond (pos 16777217) ≡ true) × (beyond (pos 16777216) ≡ false) × (beyond (negsuc 16777215) ≡ false) × (beyond (negsuc 16777216) ≡ true)
+    (beyond (pos 16777217) ≡ true) × (beyond (pos 16777216) ≡ false) × (beyond (negsuc 16777215) ≡ false)
+    × (beyond (negsuc 16777216) ≡ true)
 limits = (refl, refl, refl, refl)
 
 part-of-a-vertex :

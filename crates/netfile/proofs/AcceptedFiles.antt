@@ -44,7 +44,8 @@ module _ (file : List ℕ) (short : Bool) (taken : readRefusal file short ≡ 0)
   parts = read-parts file short taken
 
   after-head : Clear (runs count (λ i. pointFaults (fromPoint file i))) × Clear (endFaults (fromPoint file count))
-  after-head = clear-parts (runs count (λ i. pointFaults (fromPoint file i))) (endFaults (fromPoint file count)) (parts .1)
+  after-head =
+      clear-parts (runs count (λ i. pointFaults (fromPoint file i))) (endFaults (fromPoint file count)) (parts .1)
 
   sides-there : headSize ≤ length file
   sides-there = head-there file short (parts .0)
@@ -68,20 +69,25 @@ module _ (file : List ℕ) (short : Bool) (taken : readRefusal file short ≡ 0)
 first-of-longer : (l more : List ℕ) → 4 ≤ length l → firstWord (l ++ more) ≡ firstWord l
 first-of-longer l more k = same-first (l ++ more) l (λ i h. List·getD-append l more 0 i (omega (arith, h, k)))
 
-longer : (file more : List ℕ) (short other : Bool) → readRefusal file short ≡ 0 → readRefusal (file ++ more) other ≡ 0 → length more ≡ 0
+longer : (file more : List ℕ) (short other : Bool) → readRefusal file short ≡ 0 → readRefusal (file ++ more) other ≡ 0 →
+    length more ≡ 0
 longer file more short other e f =
     let there = sides-there file short e in
-    let width : fileWidth (file ++ more) ≡ fileWidth file = ap wordPayload (first-of-longer file more (omega (arith, there))) in
+    let width : fileWidth (file ++ more)
+    ≡ fileWidth file = ap wordPayload (first-of-longer file more (omega (arith, there))) in
     let height : fileHeight (file ++ more) ≡ fileHeight file =
     ap (λ (l : List ℕ). wordPayload (firstWord l)) (drop-append-le 4 file more (omega (arith, there)))
     ∙ ap wordPayload (first-of-longer (drop 4 file) more (omega (arith, there, length-drop 4 file))) in
-    let same : fileSize (fileWidth (file ++ more)) (fileHeight (file ++ more)) ≡ fileSize (fileWidth file) (fileHeight file) = λ t. fileSize (width t) (height t) in
+    let same : fileSize (fileWidth (file ++ more)) (fileHeight (file ++ more))
+    ≡ fileSize (fileWidth file) (fileHeight file) = λ t. fileSize (width t) (height t) in
     omega (arith, whole-length file short e, whole-length (file ++ more) other f, same, length-append file more)
 
 pub one-length : OneLength
 one-length file short other e = (
   (λ n k f.
-      let none = longer (take n file) (drop n file) other short f (ap (λ (l : List ℕ). readRefusal l short) (take-append-drop n file) ∙ e) in
+      let none =
+      longer (take n file) (drop n file) other short f
+      (ap (λ (l : List ℕ). readRefusal l short) (take-append-drop n file) ∙ e) in
       omega (arith, none, length-drop n file, k)),
   (λ more k f.
       let none = longer file more short other e f in
@@ -95,34 +101,41 @@ bytes-from : (file : List ℕ) (n : ℕ) → AllBytes file → AllBytes (drop n 
 bytes-from file n small i = subst (λ (b : ℕ). b < 256) (sym (getD-drop n file i 0)) (small (n + i))
 
 module _ (left : List ℕ) (small : AllBytes left) where
-  word-back : (kind : ℕ) → Clear (wordFaults left kind) → wordBytes (word kind (wordPayload (firstWord left))) ≡ take 4 left
+  word-back : (kind : ℕ) → Clear (wordFaults left kind) →
+      wordBytes (word kind (wordPayload (firstWord left))) ≡ take 4 left
   word-back kind k =
-      ap wordBytes (word-of-parts (firstWord left) (eqb-true (wordKind (firstWord left)) kind (not-false (eqb (wordKind (firstWord left)) kind) (k .1 .0))))
+      ap wordBytes (word-of-parts (firstWord left)
+      (eqb-true (wordKind (firstWord left)) kind (not-false (eqb (wordKind (firstWord left)) kind) (k .1 .0))))
       ∙ bytes-of-first left (ltb-false (length left) 4 (k .0)) small
 
   number-back : (kind : ℕ) → Clear (numberFaults left kind) → numberBytes kind (firstNumber left) ≡ take 4 left
   number-back kind k =
-      ap (λ (p : ℕ). wordBytes (word kind p)) (complement-signed (wordPayload (firstWord left)) (payload-small (firstWord left)))
+      ap (λ (p : ℕ). wordBytes (word kind p))
+      (complement-signed (wordPayload (firstWord left)) (payload-small (firstWord left)))
       ∙ word-back kind (k .0, (k .1 .0, tt))
 
 -- three words of a control point
 module _ (left : List ℕ) (k : Clear (pointFaults left)) where
-  three : Clear (numberFaults left xKind) × Clear (numberFaults (drop 4 left) yKind) × Clear (numberFaults (drop 8 left) zKind)
+  three : Clear (numberFaults left xKind) × Clear (numberFaults (drop 4 left) yKind)
+      × Clear (numberFaults (drop 8 left) zKind)
   three = point-parts left k
 
   point-back : AllBytes left →
-      numberBytes xKind (firstNumber left) ++ numberBytes yKind (firstNumber (drop 4 left)) ++ numberBytes zKind (firstNumber (drop 8 left)) ≡ take pointSize left
+      numberBytes xKind (firstNumber left) ++ numberBytes yKind (firstNumber (drop 4 left))
+      ++ numberBytes zKind (firstNumber (drop 8 left)) ≡ take pointSize left
   point-back small =
       let x = number-back left small xKind (three .0) in
       let y = number-back (drop 4 left) (bytes-from left 4 small) yKind (three .1) in
       let z = number-back (drop 8 left) (bytes-from left 8 small) zKind (three .2) in
-      (λ t. x t ++ y t ++ z t) ∙ ap (λ (l : List ℕ). l ++ take 4 (drop 8 left)) (sym (take-add 4 4 left)) ∙ sym (take-add 8 4 left)
+      (λ t. x t ++ y t ++ z t) ∙ ap (λ (l : List ℕ). l ++ take 4 (drop 8 left)) (sym (take-add 4 4 left))
+      ∙ sym (take-add 8 4 left)
 
   point-range : anyBeyond (firstPoint left) ≡ false
   unfolding firstPoint
   point-range =
       sym (or-no (beyond (firstNumber left)) _ (three .0 .1 .1 .0)
-      (or-no (beyond (firstNumber (drop 4 left))) _ (three .1 .1 .1 .0) (or-no (beyond (firstNumber (drop 8 left))) _ (three .2 .1 .1 .0) refl)))
+      (or-no (beyond (firstNumber (drop 4 left))) _ (three .1 .1 .1 .0)
+      (or-no (beyond (firstNumber (drop 8 left))) _ (three .2 .1 .1 .0) refl)))
 
 point-numbers : (left : List ℕ) → length (firstPoint left) ≡ pointStride
 unfolding firstPoint
@@ -153,24 +166,29 @@ module _ (file : List ℕ) (lent : List ℤ) (taken : Readable file lent) where
   room = good file short taken (length lent) refl .room-enough
 
   numbers-read : length (fileNumbers file) ≡ numbers width height
-  numbers-read = length-runs n pointStride (λ i. firstPoint (fromPoint file i)) (λ i k. point-numbers (fromPoint file i)) ∙ omega arith
+  numbers-read =
+      length-runs n pointStride (λ i. firstPoint (fromPoint file i)) (λ i k. point-numbers (fromPoint file i))
+      ∙ omega arith
 
   laid-over : after ≡ over (fileNumbers file) lent
   laid-over = sym (when-accepted (readRefusal file short) (over (fileNumbers file) lent) lent taken)
 
   pub read-front : cut after width height ≡ fileNumbers file
   read-front =
-      ap (cut-of) laid-over ∙ ap (λ (k : ℕ). take k (over (fileNumbers file) lent)) (sym numbers-read) ∙ take-over (fileNumbers file) lent
+      ap (cut-of) laid-over ∙ ap (λ (k : ℕ). take k (over (fileNumbers file) lent)) (sym numbers-read)
+      ∙ take-over (fileNumbers file) lent
     where
       cut-of : List ℤ → List ℤ
       cut-of l = cut l width height
 
-  number-after : (i at r : ℕ) → i < n → r < 3 → at ≡ i * pointStride + r → number after at ≡ number (firstPoint (fromPoint file i)) r
+  number-after : (i at r : ℕ) → i < n → r < 3 → at ≡ i * pointStride + r →
+      number after at ≡ number (firstPoint (fromPoint file i)) r
   number-after i at r k l e =
       sym (getD-take (numbers width height) after at (pos 0) (omega (arith, k, l, e)))
       ∙ ap (λ (m : List ℤ). number m at) read-front
       ∙ ap (number (fileNumbers file)) e
-      ∙ getD-runs n pointStride (λ j. firstPoint (fromPoint file j)) (pos 0) (λ j q. point-numbers (fromPoint file j)) i r k l
+      ∙ getD-runs n pointStride (λ j. firstPoint (fromPoint file j)) (pos 0)
+      (λ j q. point-numbers (fromPoint file j)) i r k l
 
   pub accepted-again : Writable after width height
   accepted-again =
@@ -178,13 +196,28 @@ module _ (file : List ℕ) (lent : List ℤ) (taken : Readable file lent) where
         good file short taken (length lent) refl .size,
         (
           le-ltb (length after) (numbers width height)
-              (omega (arith, ap length laid-over, length-over (fileNumbers file) lent (omega (arith, numbers-read, room)), room)),
-          (refl, (front-in-range after width height read-front (any-runs n (λ i. firstPoint (fromPoint file i)) (λ i k. point-range (fromPoint file i) (points-clear i k))), tt)),
+              (omega (
+                arith,
+                ap length laid-over,
+                length-over (fileNumbers file) lent
+                    (omega (arith, numbers-read, room)),
+                room,
+              )),
+          (
+            refl,
+            (
+              front-in-range after width height read-front
+                  (any-runs n (λ i. firstPoint (fromPoint file i))
+                  (λ i k. point-range (fromPoint file i) (points-clear i k))),
+              tt,
+            ),
+          ),
         ),
       )
 
   module _ (small : AllBytes file) where
-    point-after : (i : ℕ) → i < n → pointBytes after (pointStride * i) ≡ take pointSize (drop (i * pointSize) (drop headSize file))
+    point-after : (i : ℕ) → i < n →
+        pointBytes after (pointStride * i) ≡ take pointSize (drop (i * pointSize) (drop headSize file))
     unfolding pointBytes firstPoint
     point-after i k =
         let x = number-after i (pointStride * i) 0 k (lit< tt) (omega arith) in
@@ -198,7 +231,8 @@ module _ (file : List ℕ) (lent : List ℤ) (taken : Readable file lent) where
 
     body-after : runs n (λ i. pointBytes after (pointStride * i)) ≡ take (pointSize * n) (drop headSize file)
     body-after =
-        runs-same n (λ i. pointBytes after (pointStride * i)) (λ i. take pointSize (drop (i * pointSize) (drop headSize file))) point-after
+        runs-same n (λ i. pointBytes after (pointStride * i))
+        (λ i. take pointSize (drop (i * pointSize) (drop headSize file))) point-after
         ∙ runs-of-parts (drop headSize file) pointSize n
         ∙ ap (λ (k : ℕ). take k (drop headSize file)) (mul-comm n pointSize)
 
@@ -217,7 +251,8 @@ module _ (file : List ℕ) (lent : List ℤ) (taken : Readable file lent) where
         let a = word-back file small widthKind (k .0, (k .1 .0, tt)) in
         let b = word-back (drop 4 file) (bytes-from file 4 small) heightKind (k .1 .1 .1 .0, (k .1 .1 .1 .1 .0, tt)) in
         (λ t. a t ++ b t ++ body-after t ++ end-after t)
-        ∙ ap (λ (l : List ℕ). l ++ take (pointSize * n) (drop headSize file) ++ take 4 (fromPoint file n)) (sym (take-add 4 4 file))
+        ∙ ap (λ (l : List ℕ). l ++ take (pointSize * n) (drop headSize file) ++ take 4 (fromPoint file n))
+        (sym (take-add 4 4 file))
         ∙ ap (λ (l : List ℕ). l ++ take 4 (fromPoint file n)) (sym (take-add headSize (pointSize * n) file))
         ∙ sym (take-add (headSize + pointSize * n) 4 file)
         ∙ take-all (headSize + pointSize * n + 4) file (omega (arith, whole-length file short taken))
@@ -230,8 +265,10 @@ writes-back-file file lent out small e k =
     let h = fileHeight file in
     let long = whole-length file short e in
     let none : writeRefusal after w h (noRoom w h (length out)) ≡ 0 =
-    ap (writeRefusal after w h) (le-ltb (length out) (fileSize w h) (omega (arith, long, k))) ∙ accepted-again file lent e in (
-      sym (accepted-answer (writeRefusal after w h (noRoom w h (length out))) (fileSize w h ∷ []) none (λ t. long t ∷ [])),
+    ap (writeRefusal after w h) (le-ltb (length out) (fileSize w h) (omega (arith, long, k)))
+    ∙ accepted-again file lent e in (
+      sym (accepted-answer (writeRefusal after w h (noRoom w h (length out))) (fileSize w h ∷ []) none
+          (λ t. long t ∷ [])),
       sym (when-accepted (writeRefusal after w h (noRoom w h (length out))) (over (netFile after w h) out) out none)
           ∙ ap (λ (l : List ℕ). over l out) (file-after file lent e small),
     )

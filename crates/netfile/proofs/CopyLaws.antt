@@ -61,7 +61,8 @@ module _ (net : List ℤ) (w h : ℕ) (out : List ℕ) (back : List ℤ) where
         ap (λ (n : ℕ). take n (over (netFile net w h) out)) count ∙ take-over (netFile net w h) out
 
     written-fits : fileSize w h ≤ length (over (netFile net w h) out)
-    written-fits = omega (arith, fits .2, length-over (netFile net w h) out (omega (arith, fits .2, file-length net w h)))
+    written-fits =
+        omega (arith, fits .2, length-over (netFile net w h) out (omega (arith, fits .2, file-length net w h)))
 
   -- the file was written, and then read
   module _ {n : ℕ} {l : List ℕ} (e : _≡_ {A = ℕ × List ℕ} (0, n ∷ []) (writeAnswerWith net w h short)) (f : l ≡ writeOutputWith net w h short out) where
@@ -83,8 +84,10 @@ module _ (net : List ℤ) (w h : ℕ) (out : List ℕ) (back : List ℤ) where
     part : take (n - 0) l ≡ netFile net w h
     part = (λ t. take (count t - 0) (laid t)) ∙ written-part none
 
-    pub copied : {outcome : ℕ × List ℕ} {m : List ℤ} → outcome ≡ readAnswer (take (n - 0) l) back → m ≡ readNet (take (n - 0) l) back →
-        (outcome ≡ answer refusal (w ∷ h ∷ [])) × (l ≡ outputAfter refusal (netFile net w h) out) × (m ≡ outputAfter refusal (take (numbers w h) net) back)
+    pub copied : {outcome : ℕ × List ℕ} {m : List ℤ} → outcome ≡ readAnswer (take (n - 0) l) back →
+        m ≡ readNet (take (n - 0) l) back →
+        (outcome ≡ answer refusal (w ∷ h ∷ [])) × (l ≡ outputAfter refusal (netFile net w h) out)
+        × (m ≡ outputAfter refusal (take (numbers w h) net) back)
     copied p q =
         let found = reads-back-net net w h back (fits none .0) (fits none .1) in (
           p
@@ -99,8 +102,10 @@ module _ (net : List ℤ) (w h : ℕ) (out : List ℕ) (back : List ℤ) where
         )
 
   -- or refused
-  pub not-copied : {n : ℕ} {l : List ℕ} → _≡_ {A = ℕ × List ℕ} (n, []) (writeAnswerWith net w h short) → l ≡ writeOutputWith net w h short out →
-      (_≡_ {A = ℕ × List ℕ} (n, []) (answer refusal (w ∷ h ∷ []))) × (l ≡ outputAfter refusal (netFile net w h) out) × (back ≡ outputAfter refusal (take (numbers w h) net) back)
+  pub not-copied : {n : ℕ} {l : List ℕ} → _≡_ {A = ℕ × List ℕ} (n, []) (writeAnswerWith net w h short) →
+      l ≡ writeOutputWith net w h short out →
+      (_≡_ {A = ℕ × List ℕ} (n, []) (answer refusal (w ∷ h ∷ []))) × (l ≡ outputAfter refusal (netFile net w h) out)
+      × (back ≡ outputAfter refusal (take (numbers w h) net) back)
   not-copied {n} {l} e f =
       let outcome : n ≡ refusal = (λ t. e t .0) ∙ same-refusal in
       let there = not-accepted (writeRefusal net w h short) (fileSize w h ∷ []) (lit< tt) e in

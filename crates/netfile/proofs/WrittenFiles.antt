@@ -68,7 +68,9 @@ side-clear kind h side k after e =
 module _ (net : List ℤ) (at : ℕ) (after : List ℕ) (hx : natAbs (number net at) ≤ 16777216) (hy : natAbs (number net (at + 1)) ≤ 16777216)
     (hz : natAbs (number net (at + 2)) ≤ 16777216) where
   abbrev fromX : List ℕ
-  fromX = numberBytes xKind (number net at) ++ (numberBytes yKind (number net (at + 1)) ++ (numberBytes zKind (number net (at + 2)) ++ after))
+  fromX =
+      numberBytes xKind (number net at)
+      ++ (numberBytes yKind (number net (at + 1)) ++ (numberBytes zKind (number net (at + 2)) ++ after))
 
   abbrev fromY : List ℕ
   fromY = numberBytes yKind (number net (at + 1)) ++ (numberBytes zKind (number net (at + 2)) ++ after)
@@ -79,26 +81,33 @@ module _ (net : List ℤ) (at : ℕ) (after : List ℕ) (hx : natAbs (number net
   words-follow : pointBytes net at ++ after ≡ fromX
   unfolding pointBytes
   words-follow =
-      append-assoc (numberBytes xKind (number net at) ++ numberBytes yKind (number net (at + 1))) (numberBytes zKind (number net (at + 2))) after
+      append-assoc (numberBytes xKind (number net at) ++ numberBytes yKind (number net (at + 1)))
+      (numberBytes zKind (number net (at + 2))) after
       ∙ append-assoc (numberBytes xKind (number net at)) (numberBytes yKind (number net (at + 1))) fromZ
 
   second-word : drop 4 (pointBytes net at ++ after) ≡ fromY
-  second-word = ap (drop 4) words-follow ∙ drop-at (numberBytes xKind (number net at)) fromY 4 (word-length (word xKind (complement (number net at))))
+  second-word =
+      ap (drop 4) words-follow
+      ∙ drop-at (numberBytes xKind (number net at)) fromY 4 (word-length (word xKind (complement (number net at))))
 
   third-word : drop 8 (pointBytes net at ++ after) ≡ fromZ
   third-word =
       sym (drop-drop 4 4 (pointBytes net at ++ after))
       ∙ ap (drop 4) second-word
-      ∙ drop-at (numberBytes yKind (number net (at + 1))) fromZ 4 (word-length (word yKind (complement (number net (at + 1)))))
+      ∙ drop-at (numberBytes yKind (number net (at + 1))) fromZ 4
+      (word-length (word yKind (complement (number net (at + 1)))))
 
   point-clear : Clear (pointFaults (pointBytes net at ++ after))
   point-clear =
       let l = pointBytes net at ++ after in
       clear-append (numberFaults l xKind ++ numberFaults (drop 4 l) yKind) (numberFaults (drop 8 l) zKind)
       (clear-append (numberFaults l xKind) (numberFaults (drop 4 l) yKind)
-      (subst (λ (m : List ℕ). Clear (numberFaults m xKind)) (sym words-follow) (number-clear xKind (lit< tt) (number net at) hx fromY))
-      (subst (λ (m : List ℕ). Clear (numberFaults m yKind)) (sym second-word) (number-clear yKind (lit< tt) (number net (at + 1)) hy fromZ)))
-      (subst (λ (m : List ℕ). Clear (numberFaults m zKind)) (sym third-word) (number-clear zKind (lit< tt) (number net (at + 2)) hz after))
+      (subst (λ (m : List ℕ). Clear (numberFaults m xKind)) (sym words-follow)
+      (number-clear xKind (lit< tt) (number net at) hx fromY))
+      (subst (λ (m : List ℕ). Clear (numberFaults m yKind)) (sym second-word)
+      (number-clear yKind (lit< tt) (number net (at + 1)) hy fromZ)))
+      (subst (λ (m : List ℕ). Clear (numberFaults m zKind)) (sym third-word)
+      (number-clear zKind (lit< tt) (number net (at + 2)) hz after))
 
   point-found : firstPoint (pointBytes net at ++ after) ≡ number net at ∷ number net (at + 1) ∷ number net (at + 2) ∷ []
   unfolding firstPoint
@@ -109,7 +118,8 @@ module _ (net : List ℤ) (at : ℕ) (after : List ℕ) (hx : natAbs (number net
       λ t. x t ∷ y t ∷ z t ∷ []
 
 -- three numbers of a list
-three-numbers : (l : List ℤ) (at : ℕ) → at + pointStride ≤ length l → number l at ∷ number l (at + 1) ∷ number l (at + 2) ∷ [] ≡ take pointStride (drop at l)
+three-numbers : (l : List ℤ) (at : ℕ) → at + pointStride ≤ length l →
+    number l at ∷ number l (at + 1) ∷ number l (at + 2) ∷ [] ≡ take pointStride (drop at l)
 unfolding runs
 three-numbers l at h =
     let first : number l at ≡ number (drop at l) 0 = ap (number l) (omega arith) ∙ sym (getD-drop at l 0 (pos 0)) in
@@ -117,7 +127,9 @@ three-numbers l at h =
     ∙ runs-of-list (pos 0) (drop at l) 3 (omega (arith, length-drop at l))
 
 writable : (net : List ℤ) (w h : ℕ) → Writable net w h → GoodNet net w h (fileSize w h)
-writable net w h e = good-net net w h false (fileSize w h) (ap (writeRefusal net w h) (le-ltb (fileSize w h) (fileSize w h) (le-refl (fileSize w h))) ∙ e)
+writable net w h e =
+    good-net net w h false (fileSize w h)
+    (ap (writeRefusal net w h) (le-ltb (fileSize w h) (fileSize w h) (le-refl (fileSize w h))) ∙ e)
 
 module _ (net : List ℤ) (w h : ℕ) (taken : Writable net w h) where
   good : GoodNet net w h (fileSize w h)
@@ -147,21 +159,29 @@ module _ (net : List ℤ) (w h : ℕ) (taken : Writable net w h) where
   -- the file from its first, its second and its third word on
   from-first : file ≡ widthBytes ++ (heightBytes ++ (body ++ endBytes))
   unfolding netFile
-  from-first = append-assoc (widthBytes ++ heightBytes) body endBytes ∙ append-assoc widthBytes heightBytes (body ++ endBytes)
+  from-first =
+      append-assoc (widthBytes ++ heightBytes) body endBytes ∙ append-assoc widthBytes heightBytes (body ++ endBytes)
 
   from-second : drop 4 file ≡ heightBytes ++ (body ++ endBytes)
-  from-second = ap (drop 4) from-first ∙ drop-at widthBytes (heightBytes ++ (body ++ endBytes)) 4 (word-length (word widthKind w))
+  from-second =
+      ap (drop 4) from-first ∙ drop-at widthBytes (heightBytes ++ (body ++ endBytes)) 4 (word-length (word widthKind w))
 
   from-third : drop headSize file ≡ body ++ endBytes
-  from-third = sym (drop-drop 4 4 file) ∙ ap (drop 4) from-second ∙ drop-at heightBytes (body ++ endBytes) 4 (word-length (word heightKind h))
+  from-third =
+      sym (drop-drop 4 4 file) ∙ ap (drop 4) from-second
+      ∙ drop-at heightBytes (body ++ endBytes) 4 (word-length (word heightKind h))
 
   -- and from control point i on
   from-point : (i : ℕ) → fromPoint file i ≡ drop (i * pointSize) (body ++ endBytes)
-  from-point i = sym (drop-drop (pointSize * i) headSize file) ∙ ap (drop (pointSize * i)) from-third ∙ ap (λ (k : ℕ). drop k (body ++ endBytes)) (mul-comm pointSize i)
+  from-point i =
+      sym (drop-drop (pointSize * i) headSize file) ∙ ap (drop (pointSize * i)) from-third
+      ∙ ap (λ (k : ℕ). drop k (body ++ endBytes)) (mul-comm pointSize i)
 
   point-begins : (i : ℕ) → i < n → Begins (pointBytes net (pointStride * i)) (fromPoint file i)
   point-begins i k =
-      let b = run-begins n pointSize (λ j. pointBytes net (pointStride * j)) endBytes (λ j l. point-length net (pointStride * j)) i k in
+      let b =
+      run-begins n pointSize (λ j. pointBytes net (pointStride * j)) endBytes
+      (λ j l. point-length net (pointStride * j)) i k in
       record { rest = b .rest; whole = from-point i ∙ b .whole }
 
   at-end : fromPoint file n ≡ endBytes
@@ -175,7 +195,8 @@ module _ (net : List ℤ) (w h : ℕ) (taken : Writable net w h) where
 
   height-found : fileHeight file ≡ h
   height-found =
-      ap (λ (l : List ℕ). wordPayload (firstWord l)) from-second ∙ payload-found heightKind (lit< tt) h (omega (arith, size .low)) (body ++ endBytes)
+      ap (λ (l : List ℕ). wordPayload (firstWord l)) from-second
+      ∙ payload-found heightKind (lit< tt) h (omega (arith, size .low)) (body ++ endBytes)
 
   -- no number is beyond its range
   small : (i : ℕ) → i < numbers w h → natAbs (number net i) ≤ 16777216
@@ -202,7 +223,8 @@ module _ (net : List ℤ) (w h : ℕ) (taken : Writable net w h) where
   points-clear i k =
       let b = point-begins i k in
       subst (λ (l : List ℕ). Clear (pointFaults l)) (sym (b .whole))
-      (point-clear net (pointStride * i) (b .rest) (small (pointStride * i) (omega (arith, k))) (small-point i 1 k (lit< tt)) (small-point i 2 k (lit< tt)))
+      (point-clear net (pointStride * i) (b .rest) (small (pointStride * i) (omega (arith, k)))
+      (small-point i 1 k (lit< tt)) (small-point i 2 k (lit< tt)))
 
   end-clear : Clear (endFaults endBytes)
   unfolding wordBytes firstWord
@@ -210,7 +232,8 @@ module _ (net : List ℤ) (w h : ℕ) (taken : Writable net w h) where
 
   body-clear : Clear (bodyFaults file n)
   body-clear =
-      clear-append (runs n (λ i. pointFaults (fromPoint file i))) (endFaults (fromPoint file n)) (clear-runs n (λ i. pointFaults (fromPoint file i)) points-clear)
+      clear-append (runs n (λ i. pointFaults (fromPoint file i))) (endFaults (fromPoint file n))
+      (clear-runs n (λ i. pointFaults (fromPoint file i)) points-clear)
       (subst (λ (l : List ℕ). Clear (endFaults l)) (sym at-end) end-clear)
 
   -- the file's own count of control points
@@ -238,18 +261,21 @@ module _ (net : List ℤ) (w h : ℕ) (taken : Writable net w h) where
       each i k =
           let b = point-begins i k in
           ap firstPoint (b .whole)
-          ∙ point-found net (pointStride * i) (b .rest) (small (pointStride * i) (omega (arith, k))) (small-point i 1 k (lit< tt)) (small-point i 2 k (lit< tt))
+          ∙ point-found net (pointStride * i) (b .rest) (small (pointStride * i) (omega (arith, k)))
+          (small-point i 1 k (lit< tt)) (small-point i 2 k (lit< tt))
           ∙ three-numbers net (pointStride * i) (omega (arith, k, good .long))
           ∙ ap (λ (at : ℕ). take pointStride (drop at net)) (mul-comm pointStride i)
 
   -- room for the file's numbers
   room-found : (lent : List ℤ) → numbers w h ≤ length lent → shortFor file (length lent) ≡ false
-  room-found lent k = (λ t. ltb (length lent) (numbers (width-found t) (height-found t))) ∙ le-ltb (length lent) (numbers w h) k
+  room-found lent k =
+      (λ t. ltb (length lent) (numbers (width-found t) (height-found t))) ∙ le-ltb (length lent) (numbers w h) k
 
 pub reads-back-net : ReadsBack
 reads-back-net net w h lent e k =
     let file = netFile net w h in
-    let none : readRefusal file (shortFor file (length lent)) ≡ 0 = ap (readRefusal file) (room-found net w h e lent k) ∙ not-refused net w h e in (
+    let none : readRefusal file (shortFor file (length lent)) ≡ 0 = ap (readRefusal file) (room-found net w h e lent k)
+    ∙ not-refused net w h e in (
       sym (accepted-answer (readRefusal file (shortFor file (length lent))) (fileWidth file ∷ fileHeight file ∷ []) none
           (λ t. sym (width-found net w h e) t ∷ sym (height-found net w h e) t ∷ [])),
       sym (when-accepted (readRefusal file (shortFor file (length lent))) (over (fileNumbers file) lent) lent none)
@@ -262,5 +288,6 @@ one-net net other w h v k e f same =
     let height : h ≡ k = sym (height-found net w h e) ∙ ap fileHeight same ∙ height-found other v k f in (
       width,
       height,
-      sym (numbers-found net w h e) ∙ ap fileNumbers same ∙ numbers-found other v k f ∙ (λ t. take (numbers (sym width t) (sym height t)) other),
+      sym (numbers-found net w h e) ∙ ap fileNumbers same ∙ numbers-found other v k f
+          ∙ (λ t. take (numbers (sym width t) (sym height t)) other),
     )

@@ -44,7 +44,8 @@ pub record InGrid (w h i j : ℕ) : Type 0 where
   pub row : j + 1 < h
 
 -- the cell of a place of the grid is one of the grid
-pub cells-in-grid : (w h p q : ℕ) → badSize w h ≡ false → noPlace 1024 w h p q ≡ false → InGrid w h (cell 1024 w p) (cell 1024 h q)
+pub cells-in-grid : (w h p q : ℕ) → badSize w h ≡ false → noPlace 1024 w h p q ≡ false →
+    InGrid w h (cell 1024 w p) (cell 1024 h q)
 cells-in-grid w h p q e f =
     let k = in-cells w h p q e f in
     record { column = k .0 .inside; row = k .1 .inside }
@@ -61,7 +62,8 @@ pub left-over : (f g : ℕ) → f + g ≤ 1024 → g ≤ 1024 - f
 left-over f g a = omega (arith, a)
 
 -- what the code computes from a cell and a kind that it found
-pub placed : (w h p q : ℕ) {i j : ℕ} (b : Bool) → i ≡ cell 1024 w p → j ≡ cell 1024 h q → isDown 1024 (p - 1024 * i) (q - 1024 * j) ≡ b →
+pub placed : (w h p q : ℕ) {i j : ℕ} (b : Bool) → i ≡ cell 1024 w p → j ≡ cell 1024 h q →
+    isDown 1024 (p - 1024 * i) (q - 1024 * j) ≡ b →
     (let s = cond b (downShare 1024 (p - 1024 * i) (q - 1024 * j)) (upShare 1024 (p - 1024 * i) (q - 1024 * j)) in
     Placed w h p q i j b (s one) (s two) (s three))
 placed w h p q b ei ej e =
@@ -82,12 +84,14 @@ cell-ends : (D n p : ℕ) → 0 < D → 2 ≤ n → p ≤ D * (n - 1) → p ≤ 
 cell-ends D n p d k h = min-cases (p / D) (n - 2) (p ≤ D * cell D n p + D) inner last
   where
     inner : p / D ≤ n - 2 → min (p / D) (n - 2) ≡ p / D → p ≤ D * min (p / D) (n - 2) + D
-    inner a e = subst (λ (i : ℕ). p ≤ D * i + D) (sym e) (omega (arith, lt-mul-div-succ p d, mul-add D (p / D) 1, mul-one D))
+    inner a e =
+        subst (λ (i : ℕ). p ≤ D * i + D) (sym e) (omega (arith, lt-mul-div-succ p d, mul-add D (p / D) 1, mul-one D))
 
     last : n - 2 ≤ p / D → min (p / D) (n - 2) ≡ n - 2 → p ≤ D * min (p / D) (n - 2) + D
     last a e =
         let one-more : n - 1 ≡ n - 2 + 1 = omega (arith, k) in
-        subst (λ (i : ℕ). p ≤ D * i + D) (sym e) (omega (arith, h, ap (λ (i : ℕ). D * i) one-more, mul-add D (n - 2) 1, mul-one D))
+        subst (λ (i : ℕ). p ≤ D * i + D) (sym e)
+        (omega (arith, h, ap (λ (i : ℕ). D * i) one-more, mul-add D (n - 2) 1, mul-one D))
 
 pub chosen-lies : (D w h p q : ℕ) → 0 < D → 2 ≤ w → 2 ≤ h → OnGrid D w h p q → LiesIn D p q (chosen D w h p q)
 chosen-lies D w h p q d k l g = by (isDown D (rest D w p) (rest D h q)) refl

@@ -65,7 +65,8 @@ module _ (a : Index → ℕ) where
   unfolding Sorted
   in-order = go (leb (a two) (a one)) refl (leb (a three) (a two)) refl (leb (a three) (a one)) refl
     where
-      go : (x : Bool) → leb (a two) (a one) ≡ x → (y : Bool) → leb (a three) (a two) ≡ y → (z : Bool) → leb (a three) (a one) ≡ z → Sorted (orderOf a)
+      go : (x : Bool) → leb (a two) (a one) ≡ x → (y : Bool) → leb (a three) (a two) ≡ y → (z : Bool) →
+          leb (a three) (a one) ≡ z → Sorted (orderOf a)
       go true p true q z r =
           let p′ = leb-true (a two) (a one) p in
           let q′ = leb-true (a three) (a two) q in
@@ -93,4 +94,9 @@ module _ (a : Index → ℕ) where
           let p′ = leb-false (a two) (a one) p in
           let q′ = leb-false (a three) (a two) q in
           let r′ = leb-false (a three) (a one) r in
-          subst Sorted (is-321 p′ r′ q′) (omega (arith, q′), omega (arith, p′), (λ e. absurd (omega (arith, e, q′))), (λ e. absurd (omega (arith, e, p′))))
+          subst Sorted (is-321 p′ r′ q′) (
+            omega (arith, q′),
+            omega (arith, p′),
+            (λ e. absurd (omega (arith, e, q′))),
+            (λ e. absurd (omega (arith, e, p′))),
+          )

@@ -106,11 +106,11 @@ LiesBy true = LiesDown
 abbrev pub LiesIn : ℕ → ℕ → ℕ → Triangle → Type 0
 LiesIn D p q t = LiesBy (t .down) D p q (t .column) (t .row)
 
--- worked cases: the last place of a side of two lies in cell 0, and the last place of 2 by 3 is of the grid; place (1100,
--- 700) of a net of 3 by 2 lies in the up triangle of cell (1, 0), place (700, 600) of a net of 2 by 2 in the down
--- triangle, and with f + g = 1024 the up triangle is chosen; A, B and G of two orders; equal shares stay in corner order;
--- place (1024, 0) lies in the up and in the down triangle of cell (0, 0), whose corner it is, and place (1024, 1024) in
--- six triangles
+-- worked cases: the last place of a side of two lies in cell 0, and the last place of 2 by 3 is of the grid; place
+-- (1100, 700) of a net of 3 by 2 lies in the up triangle of cell (1, 0), place (700, 600) of a net of 2 by 2 in the
+-- down triangle, and with f + g = 1024 the up triangle is chosen; A, B and G of two orders; equal shares stay in corner
+-- order; place (1024, 0) lies in the up and in the down triangle of cell (0, 0), whose corner it is, and place (1024,
+-- 1024) in six triangles
 last-cell : (cell 1024 2 1024 ≡ 0) × (rest 1024 2 1024 ≡ 1024) × (cell 1024 3 1024 ≡ 1)
 last-cell = (refl, refl, refl)
 

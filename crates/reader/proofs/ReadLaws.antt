@@ -30,7 +30,8 @@ points-numbered file n = numbered-runs n (λ i. pointFaults (fromPoint file i)) 
 
 pub body-numbered : (file : List ℕ) (n : ℕ) → Numbered (bodyFaults file n)
 body-numbered file n =
-    numbered-append (runs n (λ i. pointFaults (fromPoint file i))) (endFaults (fromPoint file n)) (points-numbered file n) (end-numbered (fromPoint file n))
+    numbered-append (runs n (λ i. pointFaults (fromPoint file i))) (endFaults (fromPoint file n))
+    (points-numbered file n) (end-numbered (fromPoint file n))
 
 pub read-numbered : (file : List ℕ) (short : Bool) → Numbered (readFaults file short)
 read-numbered file short =
@@ -59,16 +60,21 @@ pub record GoodHead (file : List ℕ) (room : ℕ) : Type 0 where
   pub size : badSize (fileWidth file) (fileHeight file) ≡ false
   pub room-enough : numbers (fileWidth file) (fileHeight file) ≤ room
 
-pub good-head : (file : List ℕ) (other : Bool) (room : ℕ) → Clear (headFaults file (other || shortFor file room)) → GoodHead file room
+pub good-head : (file : List ℕ) (other : Bool) (room : ℕ) → Clear (headFaults file (other || shortFor file room)) →
+    GoodHead file room
 good-head file other room k =
     record {
       there = head-there file (other || shortFor file room) k;
-      size = sym (or-no (badSide (fileWidth file)) (badSide (fileHeight file)) (k .1 .1 .0) (sym (k .1 .1 .1 .1 .1 .0)));
-      room-enough = ltb-false room (numbers (fileWidth file) (fileHeight file)) (or-none other (shortFor file room) (k .1 .1 .1 .1 .1 .1 .0) .1);
+      size =
+          sym (or-no (badSide (fileWidth file)) (badSide (fileHeight file)) (k .1 .1 .0) (sym (k .1 .1 .1 .1 .1 .0)));
+      room-enough =
+          ltb-false room (numbers (fileWidth file) (fileHeight file))
+          (or-none other (shortFor file room) (k .1 .1 .1 .1 .1 .1 .0) .1);
     }
 
 -- n control points without a fault end within the file
-pub points-there : (file : List ℕ) (n : ℕ) → headSize ≤ length file → Clear (runs n (λ i. pointFaults (fromPoint file i))) → headSize + pointSize * n ≤ length file
+pub points-there : (file : List ℕ) (n : ℕ) → headSize ≤ length file →
+    Clear (runs n (λ i. pointFaults (fromPoint file i))) → headSize + pointSize * n ≤ length file
 points-there file zero h k = h
 points-there file (suc n) h k =
     let last = next-begins file n (clear-run (suc n) (λ i. pointFaults (fromPoint file i)) k n (omega arith)) in
@@ -91,7 +97,8 @@ module _ (file : List ℕ) (short : Bool) where
       (none-clear (headFaults file short) (head-numbered file short) (q .0), q .1)
 
   -- or refused
-  pub head-refused : {n : ℕ} → _≡_ {A = ℕ × List ℕ} (n, []) (headAnswer file short) → _≡_ {A = ℕ × List ℕ} (n, []) (readAnswerWith file short)
+  pub head-refused : {n : ℕ} → _≡_ {A = ℕ × List ℕ} (n, []) (headAnswer file short) →
+      _≡_ {A = ℕ × List ℕ} (n, []) (readAnswerWith file short)
   head-refused e =
       let q = refused (headFaults file short) (bodyFaults file body) (fileWidth file) (fileHeight file ∷ []) e in
       refused-answer (readRefusal file short) sides (q .0) (q .1)
@@ -100,18 +107,24 @@ module _ (file : List ℕ) (short : Bool) where
   pub body-refused : {n : ℕ} → Clear (headFaults file short) → n ≡ firstFault (bodyFaults file body) → (n ≡ 0 → ⊥) →
       _≡_ {A = ℕ × List ℕ} (n, []) (readAnswerWith file short)
   body-refused k e there =
-      refused-answer (readRefusal file short) sides (e ∙ fault-after (headFaults file short) (bodyFaults file body) k) there
+      refused-answer (readRefusal file short) sides
+      (e ∙ fault-after (headFaults file short) (bodyFaults file body) k) there
 
   -- or there is no fault
-  pub file-accepted : {values : List ℕ} → Clear (headFaults file short) → firstFault (bodyFaults file body) ≡ 0 → values ≡ sides →
+  pub file-accepted : {values : List ℕ} → Clear (headFaults file short) → firstFault (bodyFaults file body) ≡ 0 →
+      values ≡ sides →
       _≡_ {A = ℕ × List ℕ} (0, values) (readAnswerWith file short)
   file-accepted k z v =
-      accepted-answer (readRefusal file short) sides (sym (fault-after (headFaults file short) (bodyFaults file body) k) ∙ z) v
+      accepted-answer (readRefusal file short) sides
+      (sym (fault-after (headFaults file short) (bodyFaults file body) k) ∙ z) v
 
   -- what the answer leaves in the lent net
-  pub net-kept : {n : ℕ} (net : List ℤ) → _≡_ {A = ℕ × List ℕ} (n, []) (readAnswerWith file short) → net ≡ readNetWith file short net
+  pub net-kept : {n : ℕ} (net : List ℤ) → _≡_ {A = ℕ × List ℕ} (n, []) (readAnswerWith file short) →
+      net ≡ readNetWith file short net
   net-kept net e =
-      when-refused (readRefusal file short) (over (fileNumbers file) net) net (not-accepted (readRefusal file short) sides (lit< tt) e)
+      when-refused (readRefusal file short) (over (fileNumbers file) net) net
+      (not-accepted (readRefusal file short) sides (lit< tt) e)
 
-  pub net-read : {l : List ℤ} (net : List ℤ) → readRefusal file short ≡ 0 → l ≡ over (fileNumbers file) net → l ≡ readNetWith file short net
+  pub net-read : {l : List ℤ} (net : List ℤ) → readRefusal file short ≡ 0 → l ≡ over (fileNumbers file) net →
+      l ≡ readNetWith file short net
   net-read net none e = e ∙ when-accepted (readRefusal file short) (over (fileNumbers file) net) net none

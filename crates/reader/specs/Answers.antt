@@ -45,7 +45,8 @@ outcomes = (refl, refl)
 abbrev file23 : List ℕ
 file23 = netFile (squares 54) 2 3
 
-answers : (readAnswer file23 (replicate 55 (pos 7)) ≡ (0, 2 ∷ 3 ∷ [])) × (readAnswer file23 (replicate 53 (pos 7)) ≡ (5, []))
+answers : (readAnswer file23 (replicate 55 (pos 7)) ≡ (0, 2 ∷ 3 ∷ []))
+    × (readAnswer file23 (replicate 53 (pos 7)) ≡ (5, []))
 unfolding wordBytes firstWord pointBytes netFile runs
 answers = (refl, refl)
 

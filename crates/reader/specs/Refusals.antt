@@ -72,9 +72,9 @@ order :
 unfolding wordBytes firstWord pointBytes netFile runs
 order = (refl, refl, refl, refl, refl, refl, refl, refl)
 
--- at one word, 8 before 1 and before 3: a first word of the height's kind with payload 1, which is no side; a second word
--- of the width's kind with payload 1; a first number of kind 4 that is beyond the range; and 7 before both, where three
--- bytes of that are left
+-- at one word, 8 before 1 and before 3: a first word of the height's kind with payload 1, which is no side; a second
+-- word of the width's kind with payload 1; a first number of kind 4 that is beyond the range; and 7 before both, where
+-- three bytes of that are left
 one-word :
     (found (wordBytes (word 2 1)) (numbers 2 2) ≡ 8)
     × (found (wordBytes (word 1 1)) (numbers 2 2) ≡ 1)

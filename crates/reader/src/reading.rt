@@ -233,7 +233,7 @@ pub fn read_with(file: &[u8], short: bool, net: &mut [i32]) -> ReadAnswer
             load_points(file, 3 * (w * h), net);
             ReadAnswer::Size(w, h)
         }
-        ReadAnswer::Refused(n) => ReadAnswer::Refused(n),
+        ReadAnswer::Refused(_) => found,
     }
 }
 

@@ -18,7 +18,8 @@ Left refusal k w h result out scratch out′ scratch′ =
     (out′ ≡ outputAfter refusal result out) × UnchangedFrom (freeScratch refusal k w h) scratch scratch′
 
 module _ (refusal k w h : ℕ) (result out scratch : List ℤ) where
-  pub left-accepted : {out′ : List ℤ} (scratch′ : List ℤ) → refusal ≡ 0 → out′ ≡ over result out → UnchangedFrom (scratchNeed k w h) scratch scratch′ →
+  pub left-accepted : {out′ : List ℤ} (scratch′ : List ℤ) → refusal ≡ 0 → out′ ≡ over result out →
+      UnchangedFrom (scratchNeed k w h) scratch scratch′ →
       Left refusal k w h result out scratch out′ scratch′
   left-accepted scratch′ e o s = (
     o ∙ when-accepted refusal (over result out) out e,
@@ -32,5 +33,6 @@ module _ (refusal k w h : ℕ) (result out scratch : List ℤ) where
 pub carried-out : (refusal : ℕ) → refusal ≡ 0 → _≡_ {A = ℕ × Bool} (0, true) (refusal, accepted refusal)
 carried-out refusal e = λ t. (sym e t, accepted (sym e t))
 
-pub not-carried-out : (refusal : ℕ) {n : ℕ} → n ≡ refusal → (n ≡ 0 → ⊥) → _≡_ {A = ℕ × Bool} (n, false) (refusal, accepted refusal)
+pub not-carried-out : (refusal : ℕ) {n : ℕ} → n ≡ refusal → (n ≡ 0 → ⊥) →
+    _≡_ {A = ℕ × Bool} (n, false) (refusal, accepted refusal)
 not-carried-out refusal e there = λ t. (e t, sym (ne-eqb refusal 0 (λ z. there (e ∙ z))) t)

@@ -27,4 +27,5 @@ good-depth w h k e f =
 pub not-deep : {w h k : ℕ} → Depth w h k → tooDeep w h k ≡ false
 not-deep {w} {h} {k} g =
     sym (or-no (ltb 6 k) _ (le-ltb 6 k (g .few))
-    (or-no (ltb 1025 (sideAfter k w)) (ltb 1025 (sideAfter k h)) (le-ltb 1025 (sideAfter k w) (g .narrow)) (sym (le-ltb 1025 (sideAfter k h) (g .low)))))
+    (or-no (ltb 1025 (sideAfter k w)) (ltb 1025 (sideAfter k h)) (le-ltb 1025 (sideAfter k w) (g .narrow))
+    (sym (le-ltb 1025 (sideAfter k h) (g .low)))))

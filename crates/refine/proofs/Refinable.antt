@@ -21,7 +21,8 @@ pub record Refinable (net : List ℤ) (w h k room scratchLength : ℕ) : Type 0 
   pub roomy : numbersAfter k w h ≤ room
   pub enough : scratchNeed k w h ≤ scratchLength
 
-pub refinable-by : (net : List ℤ) (w h k room scratchLength : ℕ) → badSize w h ≡ false → tooDeep w h k ≡ false → shortNet net w h ≡ false →
+pub refinable-by : (net : List ℤ) (w h k room scratchLength : ℕ) → badSize w h ≡ false → tooDeep w h k ≡ false →
+    shortNet net w h ≡ false →
     tooShort w h k room scratchLength ≡ false → netBeyond net w h ≡ false → Refinable net w h k room scratchLength
 refinable-by net w h k room scratchLength e₁ e₄ e₂ e₅ e₃ =
     let r = or-none (ltb room (numbersAfter k w h)) (ltb scratchLength (scratchNeed k w h)) e₅ in
@@ -32,7 +33,10 @@ refinable-by net w h k room scratchLength e₁ e₄ e₂ e₅ e₃ =
       enough = ltb-false _ _ (r .1);
     }
 
-pub refine-accepted : (net : List ℤ) (w h k room scratchLength : ℕ) → refineRefusal net w h k (tooShort w h k room scratchLength) ≡ 0 → Refinable net w h k room scratchLength
+pub refine-accepted : (net : List ℤ) (w h k room scratchLength : ℕ) →
+    refineRefusal net w h k (tooShort w h k room scratchLength) ≡ 0 → Refinable net w h k room scratchLength
 refine-accepted net w h k room scratchLength e =
-    let c = none-clear (sizeFaults w h k ++ netFaults net w h (tooShort w h k room scratchLength)) (lit< tt, (lit< tt, (lit< tt, (lit< tt, (lit< tt, tt))))) e in
+    let c =
+    none-clear (sizeFaults w h k ++ netFaults net w h (tooShort w h k room scratchLength))
+    (lit< tt, (lit< tt, (lit< tt, (lit< tt, (lit< tt, tt))))) e in
     refinable-by net w h k room scratchLength (c .0) (c .1 .0) (c .1 .1 .0) (c .1 .1 .1 .0) (c .1 .1 .1 .1 .0)

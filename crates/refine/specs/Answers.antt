@@ -34,9 +34,9 @@ refineOutput net w h k out scratch = outputAfter (refusalOf net w h k out scratc
 abbrev pub freeScratch : ℕ → ℕ → ℕ → ℕ → ℕ
 freeScratch refusal k w h = cond (accepted refusal) (scratchNeed k w h) 0
 
--- worked cases: outcomes of answers; the scratch that two steps of 2 by 2 leave free, a refusal and one step; the lengths
--- of the output and the scratch that two steps need, not exchanged; and, of the net of 2 by 3 whose numbers are the
--- squares, no step with room for a number more, and refused
+-- worked cases: outcomes of answers; the scratch that two steps of 2 by 2 leave free, a refusal and one step; the
+-- lengths of the output and the scratch that two steps need, not exchanged; and, of the net of 2 by 3 whose numbers are
+-- the squares, no step with room for a number more, and refused
 outcomes : (refineOutcome answer.Done ≡ (0, true)) × (refineOutcome (answer.Refused 4) ≡ (4, false))
 outcomes = (refl, refl)
 

@@ -33,7 +33,8 @@ refineRefusal net w h k short = firstFault (sizeFaults w h k ++ netFaults net w 
 
 -- worked cases: document 01's example of 4 and the limit that is accepted; a great k; the lengths that two steps of 2
 -- by 2 need; and the order, of a net whose first number is beyond the range
-depths : (tooDeep 18 2 6 ≡ true) × (tooDeep 17 17 6 ≡ false) × (tooDeep 2 2 7 ≡ true) × (tooDeep 2 2 18446744073709551615 ≡ true) × (tooDeep 2 514 1 ≡ true)
+depths : (tooDeep 18 2 6 ≡ true) × (tooDeep 17 17 6 ≡ false) × (tooDeep 2 2 7 ≡ true)
+    × (tooDeep 2 2 18446744073709551615 ≡ true) × (tooDeep 2 514 1 ≡ true)
 depths = (refl, refl, refl, refl, refl)
 
 lengths :

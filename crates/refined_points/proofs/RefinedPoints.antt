@@ -42,12 +42,20 @@ use Rattle.refined_points.specs.Refusals.{offGrid, refinedPointRefusal}
 use Rattle.refined_points.specs.Answers.{refusalAt, refinedSurfacePoint, refinedPointAnswer}
 use Rattle.refined_points.specs.DemandThree.{Claimed, RefinedPoints}
 
-pub point-accepted : (net : List ℤ) (w h k p q : ℕ) (short : Bool) (room scratchLength : ℕ) → refinedPointRefusal net w h k p q (short || tooShort w h k room scratchLength) ≡ 0 →
+pub point-accepted : (net : List ℤ) (w h k p q : ℕ) (short : Bool) (room scratchLength : ℕ) →
+    refinedPointRefusal net w h k p q (short || tooShort w h k room scratchLength) ≡ 0 →
     Refinable net w h k room scratchLength × OnGrid 1024 (sideAfter k w) (sideAfter k h) p q × (short ≡ false)
 point-accepted net w h k p q short room scratchLength e =
-    let c = none-clear (sizeFaults w h k ++ (offGrid w h k p q, 6) ∷ netFaults net w h (short || tooShort w h k room scratchLength)) (lit< tt, (lit< tt, (lit< tt, (lit< tt, (lit< tt, (lit< tt, tt)))))) e in
-    let r = or-none short (tooShort w h k room scratchLength) (c .1 .1 .1 .1 .0) in
-    (refinable-by net w h k room scratchLength (c .0) (c .1 .0) (c .1 .1 .1 .0) (r .1) (c .1 .1 .1 .1 .1 .0), on-grid 1024 (sideAfter k w) (sideAfter k h) p q (c .1 .1 .0), r .0)
+    let c =
+    none-clear (sizeFaults w h k ++ (offGrid w h k p q, 6)
+    ∷ netFaults net w h (short || tooShort w h k room scratchLength))
+    (lit< tt, (lit< tt, (lit< tt, (lit< tt, (lit< tt, (lit< tt, tt)))))) e in
+    let r = or-none short (tooShort w h k room scratchLength) (c .1 .1 .1 .1 .0) in (
+      refinable-by net w h k room scratchLength (c .0) (c .1 .0) (c .1 .1 .1 .0) (r .1)
+          (c .1 .1 .1 .1 .1 .0),
+      on-grid 1024 (sideAfter k w) (sideAfter k h) p q (c .1 .1 .0),
+      r .0,
+    )
 
 -- ---- what refining leaves in the output is an accepted net
 
@@ -63,9 +71,11 @@ point-fine F v f l =
 vertex-fine : (F : Fields) (v : Vertex) → Fine F v → anyBeyond (vertexRun F v) ≡ false
 vertex-fine F v f =
     any-append (pointAt F v one ++ pointAt F v two) (pointAt F v three)
-    ∙ sym (or-no _ _ (any-append (pointAt F v one) (pointAt F v two) ∙ sym (or-no _ _ (point-fine F v f one) (sym (point-fine F v f two)))) (sym (point-fine F v f three)))
+    ∙ sym (or-no _ _ (any-append (pointAt F v one) (pointAt F v two)
+    ∙ sym (or-no _ _ (point-fine F v f one) (sym (point-fine F v f two)))) (sym (point-fine F v f three)))
 
-stored-fine : (F : Fields) (w h : ℕ) → ((i j : ℕ) → i < w → j < h → Fine F (vertexAt i j)) → anyBeyond (stored F w h) ≡ false
+stored-fine : (F : Fields) (w h : ℕ) → ((i j : ℕ) → i < w → j < h → Fine F (vertexAt i j)) →
+    anyBeyond (stored F w h) ≡ false
 unfolding stored
 stored-fine F w h f = any-grid (vertexRun F) w h (λ i j a b. vertex-fine F (vertexAt i j) (f i j a b))
 
@@ -83,13 +93,16 @@ module _ (net : List ℤ) (w h k : ℕ) (out : List ℤ) {scratchLength : ℕ} (
   left = over (refinedNet net w h k) out
 
   size : badSize wide high ≡ false
-  size = good-sides wide high (side-at-least k w (taken .depth .wide)) (taken .depth .narrow) (side-at-least k h (taken .depth .high)) (taken .depth .low)
+  size =
+      good-sides wide high (side-at-least k w (taken .depth .wide)) (taken .depth .narrow)
+      (side-at-least k h (taken .depth .high)) (taken .depth .low)
 
   in-range : anyBeyond (refinedNet net w h k) ≡ false
   unfolding refinedNet
   in-range =
       stored-fine fields wide high (λ i j a b x c l.
-      subst (λ (F : Field). natAbs (F (vertexAt i j) l) ≤ 16777216) (our-nets k (field net w x)) (refined-in-range weights weights-pass net w h (taken .given) k i j x c a b l))
+      subst (λ (F : Field). natAbs (F (vertexAt i j) l) ≤ 16777216) (our-nets k (field net w x))
+      (refined-in-range weights weights-pass net w h (taken .given) k i j x c a b l))
 
   front : cut left wide high ≡ refinedNet net w h k
   front =
@@ -100,14 +113,17 @@ module _ (net : List ℤ) (w h k : ℕ) (out : List ℤ) {scratchLength : ℕ} (
       let fits : length (refinedNet net w h k) ≤ length out = omega (arith, refined-length net w h k, taken .roomy) in
       record {
         size = size;
-        long = le-ltb (length left) (numbers wide high) (omega (arith, length-over (refinedNet net w h k) out fits, taken .roomy));
+        long =
+            le-ltb (length left) (numbers wide high)
+            (omega (arith, length-over (refinedNet net w h k) out fits, taken .roomy));
         inRange = front-in-range left wide high front in-range;
       }
 
   -- ---- its surface points are those of the refined fields
 
   module _ (p q : ℕ) (place : OnGrid 1024 wide high p q) where
-    pub refined-coordinate : (x : ℕ) → x < 3 → coordinate left wide high p q x ≡ refinedCoordinate (field net w x) w h k p q
+    pub refined-coordinate : (x : ℕ) → x < 3 →
+        coordinate left wide high p q x ≡ refinedCoordinate (field net w x) w h k p q
     unfolding coordinate spline refinedNet
     refined-coordinate x c =
         let t = chosen 1024 wide high p q in
@@ -122,28 +138,37 @@ module _ (net : List ℤ) (w h k : ℕ) (out : List ℤ) {scratchLength : ℕ} (
     -- the point's three coordinates
     abbrev coordinates : List ℤ
     coordinates =
-        refinedCoordinate (field net w 0) w h k p q ∷ refinedCoordinate (field net w 1) w h k p q ∷ refinedCoordinate (field net w 2) w h k p q ∷ []
+        refinedCoordinate (field net w 0) w h k p q ∷ refinedCoordinate (field net w 1) w h k p q
+        ∷ refinedCoordinate (field net w 2) w h k p q ∷ []
 
     pub point-answered : (0, coordinates) ≡ pointAnswer left wide high p q
     point-answered =
         accepted-point left wide high p q (sym (point-not-refused left wide high refined-accepted p q place))
-        (sym (refined-coordinate 0 (lit< tt))) (sym (refined-coordinate 1 (lit< tt))) (sym (refined-coordinate 2 (lit< tt)))
+        (sym (refined-coordinate 0 (lit< tt))) (sym (refined-coordinate 1 (lit< tt)))
+        (sym (refined-coordinate 2 (lit< tt)))
 
     -- of the refined net alone, without what stands after it
     pub point-of-refined : coordinates ≡ surfacePoint (refinedNet net w h k) wide high p q
     unfolding pointAnswer
     point-of-refined =
         answered (pointRefusal (refinedNet net w h k) wide high p q) (surfacePoint (refinedNet net w h k) wide high p q)
-        (point-answered ∙ cut-point-answer left wide high p q ∙ ap (λ (l : List ℤ). pointAnswer l wide high p q) front) .1
+        (point-answered ∙ cut-point-answer left wide high p q
+        ∙ ap (λ (l : List ℤ). pointAnswer l wide high p q) front) .1
 
     pub claimed : Claimed net w h k p q (0, coordinates)
     claimed =
-        let each : (x : ℕ) → x < 3 → refinedCoordinate (field net w x) w h k p q ≡ number coordinates x = three-numbers (λ x. refinedCoordinate (field net w x) w h k p q) in
+        let each : (x : ℕ) → x < 3 →
+        refinedCoordinate (field net w x) w h k p q
+        ≡ number coordinates x = three-numbers (λ x. refinedCoordinate (field net w x) w h k p q) in
         record {
           answered = refl;
           point = refl;
-          near = λ x c. subst (λ (z : ℤ). NearSpline (field net w x) w h k p q z) (each x c) (demand-three net w h (taken .given) k p q x c place .0);
-          within = λ x c t o l. subst (λ (z : ℤ). WithinControls (field net w x) t z) (each x c) (demand-three net w h (taken .given) k p q x c place .1 t o l);
+          near =
+              λ x c. subst (λ (z : ℤ). NearSpline (field net w x) w h k p q z) (each x c)
+              (demand-three net w h (taken .given) k p q x c place .0);
+          within =
+              λ x c t o l. subst (λ (z : ℤ). WithinControls (field net w x) t z) (each x c)
+              (demand-three net w h (taken .given) k p q x c place .1 t o l);
         }
       where
         three-numbers : (f : ℕ → ℤ) (x : ℕ) → x < 3 → f x ≡ number (f 0 ∷ f 1 ∷ f 2 ∷ []) x
@@ -159,11 +184,13 @@ refined-points net w h k out scratch e p q place =
     let t = refine-accepted net w h k (length out) (length scratch) e in
     subst (Claimed net w h k p q)
     (point-answered net w h k out t p q place
-    ∙ ap (λ (l : List ℤ). pointAnswer l (sideAfter k w) (sideAfter k h) p q) (when-accepted (refusalOf net w h k out scratch) (over (refinedNet net w h k) out) out e))
+    ∙ ap (λ (l : List ℤ). pointAnswer l (sideAfter k w) (sideAfter k h) p q)
+    (when-accepted (refusalOf net w h k out scratch) (over (refinedNet net w h k) out) out e))
     (claimed net w h k out t p q place)
 
 -- of the answer of the call that does both
-pub answer-claimed : (net : List ℤ) (w h k p q : ℕ) (other : Bool) (out scratch : List ℤ) {outcome : ℕ × List ℤ} → outcome ≡ refinedPointAnswer net w h k p q other out scratch →
+pub answer-claimed : (net : List ℤ) (w h k p q : ℕ) (other : Bool) (out scratch : List ℤ) {outcome : ℕ × List ℤ} →
+    outcome ≡ refinedPointAnswer net w h k p q other out scratch →
     refusalAt net w h k p q other out scratch ≡ 0 → Claimed net w h k p q outcome
 answer-claimed net w h k p q other out scratch e none =
     let t = point-accepted net w h k p q other (length out) (length scratch) none in

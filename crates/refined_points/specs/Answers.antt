@@ -18,7 +18,8 @@ use Rattle.refined_points.specs.Refusals.{refinedPointRefusal}
 
 -- the first fault of refining and then a point, where `other` is whether another lent output is too short
 abbrev pub refusalAt : List ℤ → ℕ → ℕ → ℕ → ℕ → ℕ → Bool → List ℤ → List ℤ → ℕ
-refusalAt net w h k p q other out scratch = refinedPointRefusal net w h k p q (other || tooShort w h k (length out) (length scratch))
+refusalAt net w h k p q other out scratch =
+    refinedPointRefusal net w h k p q (other || tooShort w h k (length out) (length scratch))
 
 -- what that answers: the surface point of the refined net
 abbrev pub refinedSurfacePoint : List ℤ → ℕ → ℕ → ℕ → ℕ → ℕ → List ℤ

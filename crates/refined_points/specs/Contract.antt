@@ -11,8 +11,8 @@ use Rattle.refine.specs.Answers.{freeScratch}
 use Rattle.refined_points.specs.Answers.{refusalAt, refinedPointAnswer}
 use Rattle.refined_points.specs.DemandThree.{Claimed}
 
--- of a net, a size, k, a place, whether another lent output is too short, the output and the scratch before the call; and
--- of the outcome of the answer, the output and the scratch after it
+-- of a net, a size, k, a place, whether another lent output is too short, the output and the scratch before the call;
+-- and of the outcome of the answer, the output and the scratch after it
 pub record RefinedPointContract (net : List ℤ) (w h k p q : ℕ) (other : Bool) (out scratch : List ℤ) (outcome : ℕ × List ℤ) (outAfter scratchAfter : List ℤ) : Type 0 where
   pub answer : outcome ≡ refinedPointAnswer net w h k p q other out scratch
   pub output : outAfter ≡ outputAfter (refusalAt net w h k p q other out scratch) (refinedNet net w h k) out

@@ -12,7 +12,8 @@ use Rattle.net.specs.Net.{Triangle, triangleAt, numbers, controlPoint, controlT
 use Rattle.spline.specs.Spline.{spline}
 use Rattle.refined_points.specs.DemandThree.{Claimed}
 
-not-answered : (Claimed (squares 36) 2 2 0 0 0 (3, pos 15 ∷ pos 22 ∷ pos 31 ∷ []) → ⊥) × (Claimed (squares 36) 2 2 0 0 0 (0, pos 15 ∷ pos 22 ∷ []) → ⊥)
+not-answered : (Claimed (squares 36) 2 2 0 0 0 (3, pos 15 ∷ pos 22 ∷ pos 31 ∷ []) → ⊥)
+    × (Claimed (squares 36) 2 2 0 0 0 (0, pos 15 ∷ pos 22 ∷ []) → ⊥)
 not-answered = ((λ c. omega (arith, c .answered)), (λ c. omega (arith, c .point)))
 
 not-near :

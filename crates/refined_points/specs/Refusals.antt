@@ -16,10 +16,11 @@ abbrev pub offGrid : ℕ → ℕ → ℕ → ℕ → ℕ → Bool
 offGrid w h k p q = noPlace 1024 (sideAfter k w) (sideAfter k h) p q
 
 abbrev pub refinedPointRefusal : List ℤ → ℕ → ℕ → ℕ → ℕ → ℕ → Bool → ℕ
-refinedPointRefusal net w h k p q short = firstFault (sizeFaults w h k ++ (offGrid w h k p q, 6) ∷ netFaults net w h short)
+refinedPointRefusal net w h k p q short =
+    firstFault (sizeFaults w h k ++ (offGrid w h k p q, 6) ∷ netFaults net w h short)
 
--- worked cases: every fault at once, and then without the one that was found, to none; the last place of the 3 by 5 that
--- one step makes of 2 by 3, and a place past it on either side
+-- worked cases: every fault at once, and then without the one that was found, to none; the last place of the 3 by 5
+-- that one step makes of 2 by 3, and a place past it on either side
 abbrev tooLarge : List ℤ
 tooLarge = pos 16777217 ∷ replicate (numbers 2 2 - 1) (pos 0)
 

@@ -48,13 +48,18 @@ triangleTerm down s c = cornerTerm down s c one +ℤ cornerTerm down s c two +�
 abbrev cornerWith : Bool → (Index → ℕ) → Controls → Index → ℤ → ℤ → ℤ
 cornerWith down s c P ab ba =
     vertexTerm (s P) (c P)
-    +ℤ ((square (s P) -ℤ ab) *ℤ (pos 3 *ℤ c P (indexK down P)) +ℤ (square (s (next P)) -ℤ ba) *ℤ endPart (indexK down P) (c (next P)))
+    +ℤ ((square (s P) -ℤ ab) *ℤ (pos 3 *ℤ c P (indexK down P)) +ℤ (square (s (next P)) -ℤ ba) *ℤ endPart (indexK down P)
+    (c (next P)))
 
 other-squares : (down : Bool) (s : Index → ℕ) (c : Controls) →
     triangleTerm down s c
-    ≡ cornerWith down s c one (square (s one - s two)) ((pos (s one) -ℤ pos (s two)) *ℤ (pos (s one) -ℤ pos (s two)) -ℤ square (s one - s two))
-    +ℤ cornerWith down s c two (square (s two - s three)) ((pos (s two) -ℤ pos (s three)) *ℤ (pos (s two) -ℤ pos (s three)) -ℤ square (s two - s three))
-    +ℤ cornerWith down s c three ((pos (s one) -ℤ pos (s three)) *ℤ (pos (s one) -ℤ pos (s three)) -ℤ square (s one - s three)) (square (s one - s three))
+    ≡ cornerWith down s c one (square (s one - s two))
+    ((pos (s one) -ℤ pos (s two)) *ℤ (pos (s one) -ℤ pos (s two)) -ℤ square (s one - s two))
+    +ℤ cornerWith down s c two (square (s two - s three))
+    ((pos (s two) -ℤ pos (s three)) *ℤ (pos (s two) -ℤ pos (s three)) -ℤ square (s two - s three))
+    +ℤ cornerWith down s c three
+    ((pos (s one) -ℤ pos (s three)) *ℤ (pos (s one) -ℤ pos (s three)) -ℤ square (s one - s three))
+    (square (s one - s three))
 other-squares down s c = λ t.
     cornerWith down s c one (square (s one - s two)) (other-way (s one) (s two) t)
     +ℤ cornerWith down s c two (square (s two - s three)) (other-way (s two) (s three) t)
@@ -64,7 +69,8 @@ other-squares down s c = λ t.
 abbrev edgeE : Bool → Index → Expr → Expr → Expr → Expr → Index → Expr
 edgeE down P a b ab ba Q =
     (squareE a ⊖ ab) ⊗ (lit (pos 3) ⊗ nine 6 P (indexK down P))
-    ⊕ (squareE b ⊖ ba) ⊗ (lit (pos 2) ⊗ (nine 6 Q one ⊕ nine 6 Q two ⊕ nine 6 Q three) ⊖ lit (pos 3) ⊗ nine 6 Q (indexK down P))
+    ⊕ (squareE b ⊖ ba) ⊗ (lit (pos 2) ⊗ (nine 6 Q one ⊕ nine 6 Q two ⊕ nine 6 Q three) ⊖ lit (pos 3) ⊗ nine 6 Q
+    (indexK down P))
 
 abbrev vertexE : Index → Expr → Expr
 vertexE P a = squareE a ⊗ (nine 6 P one ⊕ nine 6 P two ⊕ nine 6 P three)
@@ -80,21 +86,26 @@ weightedE down = summed (bySharesE (var 0) (var 1) (var 2) (var 3) (var 4) (var 
 
 abbrev pub environment : (Index → ℕ) → Controls → List ℤ
 environment s c =
-    pos (s one) ∷ pos (s two) ∷ pos (s three) ∷ square (s one - s two) ∷ square (s one - s three) ∷ square (s two - s three) ∷ controlList c
+    pos (s one) ∷ pos (s two) ∷ pos (s three) ∷ square (s one - s two) ∷ square (s one - s three)
+    ∷ square (s two - s three) ∷ controlList c
 
-by-terms : (down : Bool) (s : Index → ℕ) (c : Controls) → weightedSum (controlWeights down s) (controlList c) ≡ pos 12 *ℤ triangleTerm down s c
+by-terms : (down : Bool) (s : Index → ℕ) (c : Controls) →
+    weightedSum (controlWeights down s) (controlList c) ≡ pos 12 *ℤ triangleTerm down s c
 unfolding weightedSum
 by-terms down s c = by-shares down s c ∙ by down
   where
     by : (down : Bool) →
         weightedSum
-        (byShares (s one) (s two) (s three) (square (s one - s two)) (square (s one - s three)) (square (s two - s three)))
+        (byShares (s one) (s two) (s three) (square (s one - s two)) (square (s one - s three))
+        (square (s two - s three)))
         (inForm down c o123)
         ≡ pos 12 *ℤ triangleTerm down s c
     by false =
-        identity (weightedE false) (lit (pos 12) ⊗ termsE false) (environment s c) refl ∙ ap (λ (z : ℤ). pos 12 *ℤ z) (sym (other-squares false s c))
+        identity (weightedE false) (lit (pos 12) ⊗ termsE false) (environment s c) refl
+        ∙ ap (λ (z : ℤ). pos 12 *ℤ z) (sym (other-squares false s c))
     by true =
-        identity (weightedE true) (lit (pos 12) ⊗ termsE true) (environment s c) refl ∙ ap (λ (z : ℤ). pos 12 *ℤ z) (sym (other-squares true s c))
+        identity (weightedE true) (lit (pos 12) ⊗ termsE true) (environment s c) refl
+        ∙ ap (λ (z : ℤ). pos 12 *ℤ z) (sym (other-squares true s c))
 
 -- ---- an end without share takes an edge out
 
@@ -117,7 +128,8 @@ no-end : (k : Index) (a : ℕ) (x y : Index → ℤ) → edgeTerm k a 0 x y ≡ 
 no-end k a x y = (λ t. lost a t *ℤ (pos 3 *ℤ x k) +ℤ nothing a t *ℤ endPart k y) ∙ no-terms (pos 3 *ℤ x k) (endPart k y)
 
 no-begin : (k : Index) (b : ℕ) (x y : Index → ℤ) → edgeTerm k 0 b x y ≡ pos 0
-no-begin k b x y = (λ t. nothing b t *ℤ (pos 3 *ℤ x k) +ℤ lost b t *ℤ endPart k y) ∙ no-terms (pos 3 *ℤ x k) (endPart k y)
+no-begin k b x y =
+    (λ t. nothing b t *ℤ (pos 3 *ℤ x k) +ℤ lost b t *ℤ endPart k y) ∙ no-terms (pos 3 *ℤ x k) (endPart k y)
 
 -- ---- the terms of a cell: its vertex (i, j), and its edges along e1, e2, e3 between (i, j), (i + 1, j) and (i, j + 1)
 
@@ -135,12 +147,14 @@ without-first b d x y z =
 without-second : (a d : ℕ) (x y z : Index → ℤ) → cellTerm a 0 d x y z ≡ vertexTerm a x +ℤ edgeTerm three d a z x
 without-second a d x y z =
     (λ t. vertexTerm a x +ℤ no-end one a x y t +ℤ no-begin two d y z t +ℤ edgeTerm three d a z x)
-    ∙ identity (var 0 ⊕ lit (pos 0) ⊕ lit (pos 0) ⊕ var 1) (var 0 ⊕ var 1) (vertexTerm a x ∷ edgeTerm three d a z x ∷ []) refl
+    ∙ identity (var 0 ⊕ lit (pos 0) ⊕ lit (pos 0) ⊕ var 1) (var 0 ⊕ var 1)
+    (vertexTerm a x ∷ edgeTerm three d a z x ∷ []) refl
 
 without-third : (a b : ℕ) (x y z : Index → ℤ) → cellTerm a b 0 x y z ≡ vertexTerm a x +ℤ edgeTerm one a b x y
 without-third a b x y z =
     (λ t. vertexTerm a x +ℤ edgeTerm one a b x y +ℤ no-end two b y z t +ℤ no-begin three a z x t)
-    ∙ identity (var 0 ⊕ var 1 ⊕ lit (pos 0) ⊕ lit (pos 0)) (var 0 ⊕ var 1) (vertexTerm a x ∷ edgeTerm one a b x y ∷ []) refl
+    ∙ identity (var 0 ⊕ var 1 ⊕ lit (pos 0) ⊕ lit (pos 0)) (var 0 ⊕ var 1)
+    (vertexTerm a x ∷ edgeTerm one a b x y ∷ []) refl
 
 first-alone : (a : ℕ) (x y z : Index → ℤ) → cellTerm a 0 0 x y z ≡ vertexTerm a x
 first-alone a x y z = without-third a 0 x y z ∙ (λ t. vertexTerm a x +ℤ no-end one a x y t) ∙ +ℤ-idr (vertexTerm a x)
@@ -155,7 +169,8 @@ third-alone d x y z = without-first 0 d x y z ∙ no-begin two d y z
 
 abbrev gridTerm : Field → ℕ → ℕ → ℕ → ℕ → ℕ → ℤ
 gridTerm F D p q i j =
-    cellTerm (vertexShare D p q (vertexAt i j)) (vertexShare D p q (vertexAt (i + 1) j)) (vertexShare D p q (vertexAt i (j + 1)))
+    cellTerm (vertexShare D p q (vertexAt i j)) (vertexShare D p q (vertexAt (i + 1) j))
+    (vertexShare D p q (vertexAt i (j + 1)))
     (F (vertexAt i j)) (F (vertexAt (i + 1) j)) (F (vertexAt i (j + 1)))
 
 module _ (F : Field) (D p q : ℕ) where
@@ -170,17 +185,21 @@ module _ (F : Field) (D p q : ℕ) where
     abbrev term : ℕ → ℕ → ℕ → ℤ
     term a b d = cellTerm a b d (controls u v) (controls (u + 1) v) (controls u (v + 1))
 
-    known : {a b d : ℕ} → shareAt u v ≡ a → shareAt (u + 1) v ≡ b → shareAt u (v + 1) ≡ d → gridTerm F D p q u v ≡ term a b d
+    known : {a b d : ℕ} → shareAt u v ≡ a → shareAt (u + 1) v ≡ b → shareAt u (v + 1) ≡ d →
+        gridTerm F D p q u v ≡ term a b d
     known e f g = λ t. term (e t) (f t) (g t)
 
-    of-first : {a : ℕ} → shareAt u v ≡ a → shareAt (u + 1) v ≡ 0 → shareAt u (v + 1) ≡ 0 → gridTerm F D p q u v ≡ vertexTerm a (controls u v)
+    of-first : {a : ℕ} → shareAt u v ≡ a → shareAt (u + 1) v ≡ 0 → shareAt u (v + 1) ≡ 0 →
+        gridTerm F D p q u v ≡ vertexTerm a (controls u v)
     of-first {a} e f g = known e f g ∙ first-alone a (controls u v) (controls (u + 1) v) (controls u (v + 1))
 
     of-second : shareAt u v ≡ 0 → shareAt u (v + 1) ≡ 0 → gridTerm F D p q u v ≡ pos 0
-    of-second e g = known e refl g ∙ second-alone (shareAt (u + 1) v) (controls u v) (controls (u + 1) v) (controls u (v + 1))
+    of-second e g =
+        known e refl g ∙ second-alone (shareAt (u + 1) v) (controls u v) (controls (u + 1) v) (controls u (v + 1))
 
     of-third : shareAt u v ≡ 0 → shareAt (u + 1) v ≡ 0 → gridTerm F D p q u v ≡ pos 0
-    of-third e f = known e f refl ∙ third-alone (shareAt u (v + 1)) (controls u v) (controls (u + 1) v) (controls u (v + 1))
+    of-third e f =
+        known e f refl ∙ third-alone (shareAt u (v + 1)) (controls u v) (controls (u + 1) v) (controls u (v + 1))
 
     but-first : {b d : ℕ} → shareAt u v ≡ 0 → shareAt (u + 1) v ≡ b → shareAt u (v + 1) ≡ d →
         gridTerm F D p q u v ≡ edgeTerm two b d (controls (u + 1) v) (controls u (v + 1))
@@ -197,7 +216,8 @@ module _ (F : Field) (D p q : ℕ) where
   -- the four cells that count, for a place in the up triangle and in the down triangle of cell (i, j)
   abbrev fourCells : ℕ → ℕ → ℤ
   fourCells i j =
-      (gridTerm F D p q i j +ℤ gridTerm F D p q (i + 1) j) +ℤ (gridTerm F D p q i (j + 1) +ℤ gridTerm F D p q (i + 1) (j + 1))
+      (gridTerm F D p q i j +ℤ gridTerm F D p q (i + 1) j) +ℤ
+      (gridTerm F D p q i (j + 1) +ℤ gridTerm F D p q (i + 1) (j + 1))
 
   -- vertices and edges from corner to next corner, as variables 0 to 5
   abbrev termList : Bool → (Index → ℕ) → Controls → List ℤ
@@ -220,7 +240,8 @@ module _ (F : Field) (D p q : ℕ) where
       above : (u : ℕ) → shareAt u (j + 1 + 1) ≡ 0
       above u = no-share l u (j + 1 + 1) (inr (inr (omega arith)))
 
-      by : (down : Bool) → Located D p q (triangleAt i j down) s → fourCells i j ≡ triangleTerm down s (controlsOf F (triangleAt i j down))
+      by : (down : Bool) → Located D p q (triangleAt i j down) s →
+          fourCells i j ≡ triangleTerm down s (controlsOf F (triangleAt i j down))
       by false l =
           let σ = corner-share false l in
           let none = fourth-share false l in
@@ -234,7 +255,8 @@ module _ (F : Field) (D p q : ℕ) where
           let none = fourth-share true l in
           (λ t.
           (but-first i j none (σ one) (σ two) t +ℤ but-second (i + 1) j (σ one) (right j) (σ three) t)
-          +ℤ (but-third i (j + 1) (σ two) (σ three) (above i) t +ℤ of-first (i + 1) (j + 1) (σ three) (right (j + 1)) (above (i + 1)) t))
+          +ℤ (but-third i (j + 1) (σ two) (σ three) (above i) t +ℤ of-first (i + 1) (j + 1) (σ three) (right (j + 1))
+          (above (i + 1)) t))
           ∙ identity (var 3 ⊕ (var 0 ⊕ var 5) ⊕ (var 1 ⊕ var 4 ⊕ var 2)) cornerTermsE
           (termList true s (controlsOf F (triangleAt i j true))) refl
 
@@ -248,8 +270,10 @@ grid-value F w h D p q t s g l =
     ∙ four-cells F D p q (t .column) (t .row) (t .down) s l
 
 -- the value by weights, in every triangle of the net that has the place
-pub one-value : (F : Field) (w h D p q : ℕ) (t t′ : Triangle) (s s′ : Index → ℕ) → OfNet w h t → Located D p q t s → OfNet w h t′ → Located D p q t′ s′ →
-    weightedSum (controlWeights (t .down) s) (controlList (controlsOf F t)) ≡ weightedSum (controlWeights (t′ .down) s′) (controlList (controlsOf F t′))
+pub one-value : (F : Field) (w h D p q : ℕ) (t t′ : Triangle) (s s′ : Index → ℕ) → OfNet w h t → Located D p q t s →
+    OfNet w h t′ → Located D p q t′ s′ →
+    weightedSum (controlWeights (t .down) s) (controlList (controlsOf F t))
+    ≡ weightedSum (controlWeights (t′ .down) s′) (controlList (controlsOf F t′))
 one-value F w h D p q t t′ s s′ g l g′ l′ =
     by-terms (t .down) s (controlsOf F t)
     ∙ ap (λ (z : ℤ). pos 12 *ℤ z) (sym (grid-value F w h D p q t s g l) ∙ grid-value F w h D p q t′ s′ g′ l′)
@@ -270,14 +294,16 @@ chosen-of-net D w h p q a b =
     (omega (arith, a, min-le-right (p / D) (w - 2)), omega (arith, b, min-le-right (q / D) (h - 2)))
 
 pub chosen-value : (F : Field) (D w h p q : ℕ) →
-    spline F w h D p q ≡ weightedSum (controlWeights (chosen D w h p q .down) (sharesIn D p q (chosen D w h p q))) (controlList (controlsOf F (chosen D w h p q)))
+    spline F w h D p q ≡ weightedSum (controlWeights (chosen D w h p q .down) (sharesIn D p q (chosen D w h p q)))
+    (controlList (controlsOf F (chosen D w h p q)))
 unfolding spline Sorted
 chosen-value F D w h p q =
     let t = chosen D w h p q in
     let a = share D w h p q in
     let sorted = in-order a in
     value-by-weights (t .down) (controlsOf F t) (orderOf a) a (sorted .0, sorted .1)
-    ∙ ap (λ (s : Index → ℕ). weightedSum (controlWeights (t .down) s) (controlList (controlsOf F t))) (chosen-shares D w h p q)
+    ∙ ap (λ (s : Index → ℕ). weightedSum (controlWeights (t .down) s) (controlList (controlsOf F t)))
+    (chosen-shares D w h p q)
 
 -- a place of a triangle of the net is a place of the grid
 place-on-grid : {D w h p q : ℕ} {t : Triangle} {s : Index → ℕ} → OfNet w h t → Located D p q t s → OnGrid D w h p q
@@ -290,7 +316,8 @@ place-on-grid {D} {w} {h} {p} {q} {t} g l =
     side : (i n : ℕ) → i + 2 ≤ n → i + 1 ≤ n - 1
     side i n k = omega (arith, k)
 
-pub spline-by-shares : (F : Field) (w h D p q : ℕ) (t : Triangle) (s : Index → ℕ) → 0 < D → OfNet w h t → Located D p q t s →
+pub spline-by-shares : (F : Field) (w h D p q : ℕ) (t : Triangle) (s : Index → ℕ) → 0 < D → OfNet w h t →
+    Located D p q t s →
     spline F w h D p q ≡ weightedSum (controlWeights (t .down) s) (controlList (controlsOf F t))
 spline-by-shares F w h D p q t s d g l =
     let c = chosen D w h p q in

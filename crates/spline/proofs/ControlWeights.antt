@@ -36,7 +36,8 @@ abbrev inOrder : Bool → Order → Expr
 inOrder down o = summed (inForm down (nine 0) o) (inForm down (nine 9) o)
 
 abbrev byCorner : Expr
-byCorner = summed (map var (0 ∷ 1 ∷ 2 ∷ 3 ∷ 4 ∷ 5 ∷ 6 ∷ 7 ∷ 8 ∷ [])) (map var (9 ∷ 10 ∷ 11 ∷ 12 ∷ 13 ∷ 14 ∷ 15 ∷ 16 ∷ 17 ∷ []))
+byCorner =
+    summed (map var (0 ∷ 1 ∷ 2 ∷ 3 ∷ 4 ∷ 5 ∷ 6 ∷ 7 ∷ 8 ∷ [])) (map var (9 ∷ 10 ∷ 11 ∷ 12 ∷ 13 ∷ 14 ∷ 15 ∷ 16 ∷ 17 ∷ []))
 
 reordered : (down : Bool) (o : Order) (W c : Controls) →
     weightedSum (inForm down W o) (inForm down c o) ≡ weightedSum (controlList W) (controlList c)
@@ -116,12 +117,14 @@ squaresE =
 abbrev partsE : Bool → List Expr
 partsE ahead = map (λ (row : List ℤ). summed (map lit row) squaresE) (partRows ahead)
 
-gaps : (ahead : Bool) (x y g : ℕ) → map (value (pos x ∷ pos y ∷ pos g ∷ [])) (inGaps ahead) ≡ parts ahead x (2 * y) (3 * g)
+gaps : (ahead : Bool) (x y g : ℕ) →
+    map (value (pos x ∷ pos y ∷ pos g ∷ [])) (inGaps ahead) ≡ parts ahead x (2 * y) (3 * g)
 unfolding weightedSum
 gaps true x y g = identities (inGaps true) (partsE true) (pos x ∷ pos y ∷ pos g ∷ []) refl
 gaps false x y g = identities (inGaps false) (partsE false) (pos x ∷ pos y ∷ pos g ∷ []) refl
 
-in-gaps : (ahead : Bool) (a b d : ℕ) → b ≤ a → d ≤ b → ofShares ahead a b d ≡ map (value (pos (a - b) ∷ pos (b - d) ∷ pos d ∷ [])) (inGaps ahead)
+in-gaps : (ahead : Bool) (a b d : ℕ) → b ≤ a → d ≤ b →
+    ofShares ahead a b d ≡ map (value (pos (a - b) ∷ pos (b - d) ∷ pos d ∷ [])) (inGaps ahead)
 in-gaps ahead a b d h k = go ahead
   where
     all : a ≡ (a - b) + (b - d) + d
@@ -139,10 +142,12 @@ in-gaps ahead a b d h k = go ahead
     go : (ahead : Bool) → ofShares ahead a b d ≡ map (value (pos (a - b) ∷ pos (b - d) ∷ pos d ∷ [])) (inGaps ahead)
     go true = λ t.
         ofCorners true (square (all t)) (square (last t)) (square d)
-        (square (a - b)) (square (both t)) (square (none b a h t)) (square (b - d)) (square (none d a (omega (arith, h, k)) t)) (square (none d b k t))
+        (square (a - b)) (square (both t)) (square (none b a h t)) (square (b - d))
+        (square (none d a (omega (arith, h, k)) t)) (square (none d b k t))
     go false = λ t.
         ofCorners false (square (all t)) (square (last t)) (square d)
-        (square (a - b)) (square (both t)) (square (none b a h t)) (square (b - d)) (square (none d a (omega (arith, h, k)) t)) (square (none d b k t))
+        (square (a - b)) (square (both t)) (square (none b a h t)) (square (b - d))
+        (square (none d a (omega (arith, h, k)) t)) (square (none d b k t))
 
 -- ---- document 01's formula is the weighted sum, in every order that goes down
 
@@ -181,7 +186,8 @@ other-way m n = sub-cases m n (square (n - m) ≡ (pos m -ℤ pos n) *ℤ (pos m
 abbrev pub byShares : (a b d : ℕ) (ab ad bd : ℤ) → List ℤ
 byShares a b d ab ad bd =
     ofCorners true (square a) (square b) (square d) ab ad
-    ((pos a -ℤ pos b) *ℤ (pos a -ℤ pos b) -ℤ ab) bd ((pos a -ℤ pos d) *ℤ (pos a -ℤ pos d) -ℤ ad) ((pos b -ℤ pos d) *ℤ (pos b -ℤ pos d) -ℤ bd)
+    ((pos a -ℤ pos b) *ℤ (pos a -ℤ pos b) -ℤ ab) bd ((pos a -ℤ pos d) *ℤ (pos a -ℤ pos d) -ℤ ad)
+    ((pos b -ℤ pos d) *ℤ (pos b -ℤ pos d) -ℤ bd)
 
 abbrev pub bySharesE : (a b d ab ad bd : Expr) → List Expr
 bySharesE a b d ab ad bd =
@@ -200,7 +206,8 @@ by-shares down a c =
     sym (reordered down o123 (weightOf down a) c)
     ∙ ap (λ (ws : List ℤ). weightedSum ws (inForm down c o123)) (weights-in-order down o123 a)
     ∙ (λ t. weightedSum (ofCorners true (square x) (square y) (square z)
-    (square (x - y)) (square (x - z)) (other-way x y t) (square (y - z)) (other-way x z t) (other-way y z t)) (inForm down c o123))
+    (square (x - y)) (square (x - z)) (other-way x y t) (square (y - z)) (other-way x z t) (other-way y z t))
+    (inForm down c o123))
 
 -- where every control value is 1
 abbrev ones : Controls
@@ -213,7 +220,8 @@ total-by-ones W =
     (var 0 ⊕ (var 1 ⊕ (var 2 ⊕ (var 3 ⊕ (var 4 ⊕ (var 5 ⊕ (var 6 ⊕ (var 7 ⊕ (var 8 ⊕ lit (pos 0))))))))))
     (summed (map var (0 ∷ 1 ∷ 2 ∷ 3 ∷ 4 ∷ 5 ∷ 6 ∷ 7 ∷ 8 ∷ [])) (map lit (controlList ones))) (controlList W) refl
 
-pub shares-total : (down : Bool) (a : Index → ℕ) (D : ℕ) → a one + a two + a three ≡ D → total (controlWeights down a) ≡ pos (36 * (D * D))
+pub shares-total : (down : Bool) (a : Index → ℕ) (D : ℕ) → a one + a two + a three ≡ D →
+    total (controlWeights down a) ≡ pos (36 * (D * D))
 unfolding weightedSum
 shares-total down a D e =
     let x = a one in
@@ -253,8 +261,16 @@ weight-not-negative down a P l =
     (omega (integers, ly, lz, expression-parts ρ (getD es 1 (var 0))))
 
 pub weights-not-negative : (down : Bool) (a : Index → ℕ) → NotNegative (controlWeights down a)
-weights-not-negative down a =
-    (w one one, (w one two, (w one three, (w two one, (w two two, (w two three, (w three one, (w three two, (w three three, tt)))))))))
+weights-not-negative down a = (
+  w one one,
+  (
+    w one two,
+    (
+      w one three,
+      (w two one, (w two two, (w two three, (w three one, (w three two, (w three three, tt)))))),
+    ),
+  ),
+)
   where
     w : (P l : Index) → pos 0 ≤ℤ weightOf down a P l
     w = weight-not-negative down a

@@ -30,8 +30,10 @@ pub record Located (D p q : ℕ) (t : Triangle) (s : Index → ℕ) : Type 0 whe
 pub located : (D p q : ℕ) (t : Triangle) → LiesIn D p q t → Located D p q t (sharesIn D p q t)
 located D p q t l = by (t .down) (t .column) (t .row) l
   where
-    by : (down : Bool) (i j : ℕ) → LiesBy down D p q i j → Located D p q (triangleAt i j down) (sharesIn D p q (triangleAt i j down))
-    by false i j l = record { whole = omega (arith, l .0, l .1, l .2); across = omega (arith, l .0); up = omega (arith, l .1) }
+    by : (down : Bool) (i j : ℕ) → LiesBy down D p q i j →
+        Located D p q (triangleAt i j down) (sharesIn D p q (triangleAt i j down))
+    by false i j l =
+        record { whole = omega (arith, l .0, l .1, l .2); across = omega (arith, l .0); up = omega (arith, l .1) }
     by true i j l =
         record {
           whole = omega (arith, l .0, l .1, l .2);
@@ -56,31 +58,39 @@ abbrev pub fourth : Triangle → Vertex
 fourth t = cond (t .down) (vertexAt (t .column) (t .row)) (vertexAt (t .column + 1) (t .row + 1))
 
 module _ {D p q : ℕ} {i j : ℕ} {s : Index → ℕ} where
-  pub corner-share : (down : Bool) → Located D p q (triangleAt i j down) s → (P : Index) → vertexShare D p q (corner (triangleAt i j down) P) ≡ s P
+  pub corner-share : (down : Bool) → Located D p q (triangleAt i j down) s → (P : Index) →
+      vertexShare D p q (corner (triangleAt i j down) P) ≡ s P
   corner-share false l one =
       share-by D p q i j (s two) (s three) (s two + s three)
       (inl (l .across)) (inl (l .up)) (inl (omega (arith, l .across, l .up))) ∙ omega (arith, l .whole)
   corner-share false l two =
       share-by D p q (i + 1) j (s one + s three) (s three) (s one)
-      (inr (omega (arith, l .across, l .whole))) (inl (l .up)) (inr (omega (arith, l .across, l .up, l .whole))) ∙ omega (arith, l .whole)
+      (inr (omega (arith, l .across, l .whole))) (inl (l .up)) (inr (omega (arith, l .across, l .up, l .whole)))
+      ∙ omega (arith, l .whole)
   corner-share false l three =
       share-by D p q i (j + 1) (s two) (s one + s two) (s one)
-      (inl (l .across)) (inr (omega (arith, l .up, l .whole))) (inr (omega (arith, l .across, l .up, l .whole))) ∙ omega (arith, l .whole)
+      (inl (l .across)) (inr (omega (arith, l .up, l .whole))) (inr (omega (arith, l .across, l .up, l .whole)))
+      ∙ omega (arith, l .whole)
   corner-share true l one =
       share-by D p q (i + 1) j (s two) (s two + s three) (s three)
-      (inr (omega (arith, l .across, l .whole))) (inl (l .up)) (inl (omega (arith, l .across, l .up, l .whole))) ∙ omega (arith, l .whole)
+      (inr (omega (arith, l .across, l .whole))) (inl (l .up)) (inl (omega (arith, l .across, l .up, l .whole)))
+      ∙ omega (arith, l .whole)
   corner-share true l two =
       share-by D p q i (j + 1) (s one + s three) (s one) (s three)
-      (inl (l .across)) (inr (omega (arith, l .up, l .whole))) (inl (omega (arith, l .across, l .up, l .whole))) ∙ omega (arith, l .whole)
+      (inl (l .across)) (inr (omega (arith, l .up, l .whole))) (inl (omega (arith, l .across, l .up, l .whole)))
+      ∙ omega (arith, l .whole)
   corner-share true l three =
       share-by D p q (i + 1) (j + 1) (s two) (s one) (s one + s two)
-      (inr (omega (arith, l .across, l .whole))) (inr (omega (arith, l .up, l .whole))) (inr (omega (arith, l .across, l .up, l .whole)))
+      (inr (omega (arith, l .across, l .whole))) (inr (omega (arith, l .up, l .whole)))
+      (inr (omega (arith, l .across, l .up, l .whole)))
       ∙ omega (arith, l .whole)
 
-  pub fourth-share : (down : Bool) → Located D p q (triangleAt i j down) s → vertexShare D p q (fourth (triangleAt i j down)) ≡ 0
+  pub fourth-share : (down : Bool) → Located D p q (triangleAt i j down) s →
+      vertexShare D p q (fourth (triangleAt i j down)) ≡ 0
   fourth-share false l =
       share-by D p q (i + 1) (j + 1) (s one + s three) (s one + s two) (s one + s one + s two + s three)
-      (inr (omega (arith, l .across, l .whole))) (inr (omega (arith, l .up, l .whole))) (inr (omega (arith, l .across, l .up, l .whole)))
+      (inr (omega (arith, l .across, l .whole))) (inr (omega (arith, l .up, l .whole)))
+      (inr (omega (arith, l .across, l .up, l .whole)))
       ∙ omega (arith, l .whole)
   fourth-share true l =
       share-by D p q i j (s one + s three) (s two + s three) (s one + s two + s three + s three)
@@ -118,7 +128,8 @@ module _ {D p q : ℕ} {t : Triangle} {s : Index → ℕ} (l : Located D p q t s
 
 -- ---- the share of a vertex is that of the corner in each triangle that the place lies in, and 0 where it is no corner
 
-pub share-of-corner : (D p q : ℕ) (t : Triangle) → LiesIn D p q t → (P : Index) → vertexShare D p q (corner t P) ≡ sharesIn D p q t P
+pub share-of-corner : (D p q : ℕ) (t : Triangle) → LiesIn D p q t → (P : Index) →
+    vertexShare D p q (corner t P) ≡ sharesIn D p q t P
 share-of-corner D p q t l P = corner-share (t .down) (located D p q t l) P
 
 -- the first column of a cell, the second, or neither; and so for rows
@@ -134,11 +145,13 @@ side i u = go (decLe u i) (decLe i u) (decLe u (i + 1))
     go (no a) b (yes c) = inr (inl (omega (arith, a, c)))
     go (no a) b (no c) = inr (inr (inr (omega (arith, a, c))))
 
-pub no-share-elsewhere : (D p q : ℕ) (t : Triangle) → LiesIn D p q t → (u v : ℕ) → ((P : Index) → corner t P ≡ vertexAt u v → ⊥) →
+pub no-share-elsewhere : (D p q : ℕ) (t : Triangle) → LiesIn D p q t → (u v : ℕ) →
+    ((P : Index) → corner t P ≡ vertexAt u v → ⊥) →
     vertexShare D p q (vertexAt u v) ≡ 0
 no-share-elsewhere D p q t l u v f = by (t .down) (t .column) (t .row) l f (side (t .column) u) (side (t .row) v)
   where
-    by : (down : Bool) (i j : ℕ) → LiesBy down D p q i j → ((P : Index) → corner (triangleAt i j down) P ≡ vertexAt u v → ⊥) →
+    by : (down : Bool) (i j : ℕ) → LiesBy down D p q i j →
+        ((P : Index) → corner (triangleAt i j down) P ≡ vertexAt u v → ⊥) →
         Side i u → Side j v → vertexShare D p q (vertexAt u v) ≡ 0
     by down i j l f (inr (inr a)) y = no-share (located D p q (triangleAt i j down) l) u v (inl a)
     by down i j l f (inl a) (inr (inr b)) = no-share (located D p q (triangleAt i j down) l) u v (inr b)
@@ -147,9 +160,11 @@ no-share-elsewhere D p q t l u v f = by (t .down) (t .column) (t .row) l f (side
     by false i j l f (inr (inl a)) (inl b) = absurd (f two (λ x. vertexAt (a x) (b x)))
     by false i j l f (inl a) (inr (inl b)) = absurd (f three (λ x. vertexAt (a x) (b x)))
     by false i j l f (inr (inl a)) (inr (inl b)) =
-        (λ x. vertexShare D p q (vertexAt (sym a x) (sym b x))) ∙ fourth-share false (located D p q (triangleAt i j false) l)
+        (λ x. vertexShare D p q (vertexAt (sym a x) (sym b x)))
+        ∙ fourth-share false (located D p q (triangleAt i j false) l)
     by true i j l f (inr (inl a)) (inl b) = absurd (f one (λ x. vertexAt (a x) (b x)))
     by true i j l f (inl a) (inr (inl b)) = absurd (f two (λ x. vertexAt (a x) (b x)))
     by true i j l f (inr (inl a)) (inr (inl b)) = absurd (f three (λ x. vertexAt (a x) (b x)))
     by true i j l f (inl a) (inl b) =
-        (λ x. vertexShare D p q (vertexAt (sym a x) (sym b x))) ∙ fourth-share true (located D p q (triangleAt i j true) l)
+        (λ x. vertexShare D p q (vertexAt (sym a x) (sym b x)))
+        ∙ fourth-share true (located D p q (triangleAt i j true) l)

@@ -31,15 +31,39 @@ byPoints down P Q =
 pub parts-value : (down : Bool) (e : Controls) (o : Order) (A B G : ℕ) →
     weightedSum (parts (aheadOf o) A B G) (inForm down e o) ≡ quadratic down e (cornerP o) (cornerQ o) A B G
 unfolding weightedSum
-parts-value false e o123 A B G = identity (byParts false o123) (byPoints false (cornerP o123) (cornerQ o123)) (coefficients A B G ++ controlList e) refl
-parts-value false e o132 A B G = identity (byParts false o132) (byPoints false (cornerP o132) (cornerQ o132)) (coefficients A B G ++ controlList e) refl
-parts-value false e o213 A B G = identity (byParts false o213) (byPoints false (cornerP o213) (cornerQ o213)) (coefficients A B G ++ controlList e) refl
-parts-value false e o231 A B G = identity (byParts false o231) (byPoints false (cornerP o231) (cornerQ o231)) (coefficients A B G ++ controlList e) refl
-parts-value false e o312 A B G = identity (byParts false o312) (byPoints false (cornerP o312) (cornerQ o312)) (coefficients A B G ++ controlList e) refl
-parts-value false e o321 A B G = identity (byParts false o321) (byPoints false (cornerP o321) (cornerQ o321)) (coefficients A B G ++ controlList e) refl
-parts-value true e o123 A B G = identity (byParts true o123) (byPoints true (cornerP o123) (cornerQ o123)) (coefficients A B G ++ controlList e) refl
-parts-value true e o132 A B G = identity (byParts true o132) (byPoints true (cornerP o132) (cornerQ o132)) (coefficients A B G ++ controlList e) refl
-parts-value true e o213 A B G = identity (byParts true o213) (byPoints true (cornerP o213) (cornerQ o213)) (coefficients A B G ++ controlList e) refl
-parts-value true e o231 A B G = identity (byParts true o231) (byPoints true (cornerP o231) (cornerQ o231)) (coefficients A B G ++ controlList e) refl
-parts-value true e o312 A B G = identity (byParts true o312) (byPoints true (cornerP o312) (cornerQ o312)) (coefficients A B G ++ controlList e) refl
-parts-value true e o321 A B G = identity (byParts true o321) (byPoints true (cornerP o321) (cornerQ o321)) (coefficients A B G ++ controlList e) refl
+parts-value false e o123 A B G =
+    identity (byParts false o123) (byPoints false (cornerP o123) (cornerQ o123))
+    (coefficients A B G ++ controlList e) refl
+parts-value false e o132 A B G =
+    identity (byParts false o132) (byPoints false (cornerP o132) (cornerQ o132))
+    (coefficients A B G ++ controlList e) refl
+parts-value false e o213 A B G =
+    identity (byParts false o213) (byPoints false (cornerP o213) (cornerQ o213))
+    (coefficients A B G ++ controlList e) refl
+parts-value false e o231 A B G =
+    identity (byParts false o231) (byPoints false (cornerP o231) (cornerQ o231))
+    (coefficients A B G ++ controlList e) refl
+parts-value false e o312 A B G =
+    identity (byParts false o312) (byPoints false (cornerP o312) (cornerQ o312))
+    (coefficients A B G ++ controlList e) refl
+parts-value false e o321 A B G =
+    identity (byParts false o321) (byPoints false (cornerP o321) (cornerQ o321))
+    (coefficients A B G ++ controlList e) refl
+parts-value true e o123 A B G =
+    identity (byParts true o123) (byPoints true (cornerP o123) (cornerQ o123))
+    (coefficients A B G ++ controlList e) refl
+parts-value true e o132 A B G =
+    identity (byParts true o132) (byPoints true (cornerP o132) (cornerQ o132))
+    (coefficients A B G ++ controlList e) refl
+parts-value true e o213 A B G =
+    identity (byParts true o213) (byPoints true (cornerP o213) (cornerQ o213))
+    (coefficients A B G ++ controlList e) refl
+parts-value true e o231 A B G =
+    identity (byParts true o231) (byPoints true (cornerP o231) (cornerQ o231))
+    (coefficients A B G ++ controlList e) refl
+parts-value true e o312 A B G =
+    identity (byParts true o312) (byPoints true (cornerP o312) (cornerQ o312))
+    (coefficients A B G ++ controlList e) refl
+parts-value true e o321 A B G =
+    identity (byParts true o321) (byPoints true (cornerP o321) (cornerQ o321))
+    (coefficients A B G ++ controlList e) refl

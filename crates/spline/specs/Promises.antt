@@ -15,7 +15,8 @@ use Rattle.spline.specs.Shares.{OfNet, sharesIn, Descending, weightOf, c
 -- value (`any-triangle`)
 abbrev pub AnyTriangle : Type 0
 AnyTriangle =
-    (F : Field) (w h D p q : ℕ) (t : Triangle) (o : Order) → 0 < D → OfNet w h t → LiesIn D p q t → Descending (sharesIn D p q t) o →
+    (F : Field) (w h D p q : ℕ) (t : Triangle) (o : Order) → 0 < D → OfNet w h t → LiesIn D p q t →
+    Descending (sharesIn D p q t) o →
     valueIn (t .down) (controlsOf F t) o (sharesIn D p q t) ≡ spline F w h D p q
 
 -- in each triangle that a place lies in, the exact value is a weighted sum of the nine control values
@@ -27,7 +28,9 @@ SplineByWeights =
     spline F w h D p q ≡ weightedSum (controlWeights (t .down) (sharesIn D p q t)) (controlList (controlsOf F t))
 
 abbrev pub WeightsTotal : Type 0
-WeightsTotal = (D p q : ℕ) (t : Triangle) → LiesIn D p q t → total (controlWeights (t .down) (sharesIn D p q t)) ≡ pos (36 * (D * D))
+WeightsTotal =
+    (D p q : ℕ) (t : Triangle) → LiesIn D p q t →
+    total (controlWeights (t .down) (sharesIn D p q t)) ≡ pos (36 * (D * D))
 
 abbrev pub WeightNotNegative : Type 0
 WeightNotNegative = (down : Bool) (a : Index → ℕ) (P l : Index) → pos 0 ≤ℤ weightOf down a P l

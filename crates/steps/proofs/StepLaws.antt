@@ -44,10 +44,12 @@ scratch-before d = le-trans (scratch-fits (shallower d)) (numbers-grow d)
 
 -- ---- no step, one step, and the last of k
 
-pub copied : (net : List ℤ) (w h k : ℕ) → k ≡ 0 → numbers w h ≤ length net → take (numbers w h) net ≡ refinedNet net w h k
+pub copied : (net : List ℤ) (w h k : ℕ) → k ≡ 0 → numbers w h ≤ length net →
+    take (numbers w h) net ≡ refinedNet net w h k
 copied net w h k e l = sym (no-step net w h l) ∙ ap (refinedNet net w h) (sym e)
 
-pub last-ready : (net out : List ℤ) {w h k : ℕ} → Depth w h k → 1 ≤ k → numbersAfter (k - 1) w h ≤ length net → numbersAfter k w h ≤ length out →
+pub last-ready : (net out : List ℤ) {w h k : ℕ} → Depth w h k → 1 ≤ k → numbersAfter (k - 1) w h ≤ length net →
+    numbersAfter k w h ≤ length out →
     StepReady net (sideAfter (k - 1) w) (sideAfter (k - 1) h) out
 last-ready net out {w} {h} {k} d a l r = (
   record {
@@ -69,15 +71,19 @@ unfolding over
 over-kept result l m n a e =
     let r = length result - n in
     let all : n + r ≡ length result = omega arith in
-    let cut : (x : List ℤ) → drop (length result) x ≡ drop r (drop n x) = λ x. sym (drop-drop r n x ∙ ap (λ (i : ℕ). drop i x) all) in
+    let cut : (x : List ℤ) →
+    drop (length result) x ≡ drop r (drop n x) = λ x. sym (drop-drop r n x ∙ ap (λ (i : ℕ). drop i x) all) in
     ap (λ (x : List ℤ). result ++ x) (cut l ∙ ap (drop r) e ∙ sym (cut m))
 
-pub output-after : (net out scratch mid : List ℤ) {w h k : ℕ} → Depth w h k → 1 ≤ k → UnchangedFrom (scratchNeed (k - 1) w h) out mid →
-    over (refinedNet (over (refinedNet net w h (k - 1)) scratch) (sideAfter (k - 1) w) (sideAfter (k - 1) h) 1) mid ≡ over (refinedNet net w h k) out
+pub output-after : (net out scratch mid : List ℤ) {w h k : ℕ} → Depth w h k → 1 ≤ k →
+    UnchangedFrom (scratchNeed (k - 1) w h) out mid →
+    over (refinedNet (over (refinedNet net w h (k - 1)) scratch) (sideAfter (k - 1) w) (sideAfter (k - 1) h) 1) mid
+    ≡ over (refinedNet net w h k) out
 output-after net out scratch mid {w} {h} {k} d a kept =
     let last : suc (k - 1) ≡ k = omega arith in
     ap (λ (l : List ℤ). over l mid) (step-more net w h (k - 1) scratch ∙ ap (refinedNet net w h) last)
-    ∙ over-kept (refinedNet net w h k) mid out (scratchNeed (k - 1) w h) (omega (arith, scratch-before d, refined-length net w h k)) (kept .1)
+    ∙ over-kept (refinedNet net w h k) mid out (scratchNeed (k - 1) w h)
+    (omega (arith, scratch-before d, refined-length net w h k)) (kept .1)
 
 pub scratch-after : (net scratch : List ℤ) (w h k : ℕ) {mid : List ℤ} → 2 ≤ k → scratchNeed k w h ≤ length scratch →
     mid ≡ over (refinedNet net w h (k - 1)) scratch → UnchangedFrom (scratchNeed k w h) scratch mid
@@ -85,5 +91,6 @@ scratch-after net scratch w h k a l e =
     let result = refinedNet net w h (k - 1) in
     let size : length result ≡ scratchNeed k w h = refined-length net w h (k - 1) ∙ scratch-needed k w h a in (
       ap length e ∙ length-over result scratch (omega (arith, size, l)),
-      ap (drop (scratchNeed k w h)) e ∙ subst (λ (n : ℕ). drop n (over result scratch) ≡ drop n scratch) size (drop-over result scratch),
+      ap (drop (scratchNeed k w h)) e
+          ∙ subst (λ (n : ℕ). drop n (over result scratch) ≡ drop n scratch) size (drop-over result scratch),
     )

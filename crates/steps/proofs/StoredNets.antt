@@ -29,7 +29,8 @@ stored-number : (F : Fields) (w h i j r : ℕ) → i < w → j < h → r < strid
 unfolding stored
 stored-number F = grid-number stride (vertexRun F) (λ v. refl)
 
-run-number : (F : Fields) (v : Vertex) (l : Index) (x : ℕ) → x < 3 → number (vertexRun F v) (pointStride * rank l + x) ≡ F x v l
+run-number : (F : Fields) (v : Vertex) (l : Index) (x : ℕ) → x < 3 →
+    number (vertexRun F v) (pointStride * rank l + x) ≡ F x v l
 run-number F v one zero h = refl
 run-number F v one (suc zero) h = refl
 run-number F v one (suc (suc zero)) h = refl
@@ -68,41 +69,53 @@ stored-same F G w h e =
     λ t. point one t ++ point two t ++ point three t)
 
 -- one refinement looks only at vertices of the net
-pub refinement-local : (F G : Field) (w h : ℕ) → Agree w h F G → Agree (refinedSide w) (refinedSide h) (refinement F) (refinement G)
+pub refinement-local : (F G : Field) (w h : ℕ) → Agree w h F G →
+    Agree (refinedSide w) (refinedSide h) (refinement F) (refinement G)
 unfolding refinement exactRefinement
 refinement-local F G w h e i j a b l = by (isOdd i) (isOdd j) refl refl
   where
     by : (p q : Bool) → isOdd i ≡ p → isOdd j ≡ q →
-        rounded (ruleBy (kindBy p q) (F (beginBy (kindBy p q) (i / 2) (j / 2))) (F (endBy (kindBy p q) (i / 2) (j / 2))) l) 12
-        ≡ rounded (ruleBy (kindBy p q) (G (beginBy (kindBy p q) (i / 2) (j / 2))) (G (endBy (kindBy p q) (i / 2) (j / 2))) l) 12
-    by false false f g = λ t. rounded (keptControl (λ c. e (i / 2) (j / 2) (omega (arith, a)) (omega (arith, b)) c t) l) 12
+        rounded (ruleBy (kindBy p q) (F (beginBy (kindBy p q) (i / 2) (j / 2)))
+        (F (endBy (kindBy p q) (i / 2) (j / 2))) l) 12
+        ≡ rounded (ruleBy (kindBy p q) (G (beginBy (kindBy p q) (i / 2) (j / 2)))
+        (G (endBy (kindBy p q) (i / 2) (j / 2))) l) 12
+    by false false f g =
+        λ t. rounded (keptControl (λ c. e (i / 2) (j / 2) (omega (arith, a)) (omega (arith, b)) c t) l) 12
     by true false f g =
         let odd = ltb-true (2 * (i / 2)) i f in
-        λ t. rounded (ruleBy (along one) (λ c. e (i / 2) (j / 2) (omega (arith, a)) (omega (arith, b)) c t) (λ c. e (i / 2 + 1) (j / 2) (omega (arith, a, odd)) (omega (arith, b)) c t) l) 12
+        λ t. rounded (ruleBy (along one) (λ c. e (i / 2) (j / 2) (omega (arith, a)) (omega (arith, b)) c t)
+        (λ c. e (i / 2 + 1) (j / 2) (omega (arith, a, odd)) (omega (arith, b)) c t) l) 12
     by true true f g =
         let odd = ltb-true (2 * (i / 2)) i f in
         let odd′ = ltb-true (2 * (j / 2)) j g in
-        λ t. rounded (ruleBy (along two) (λ c. e (i / 2 + 1) (j / 2) (omega (arith, a, odd)) (omega (arith, b)) c t) (λ c. e (i / 2) (j / 2 + 1) (omega (arith, a)) (omega (arith, b, odd′)) c t) l) 12
+        λ t. rounded (ruleBy (along two) (λ c. e (i / 2 + 1) (j / 2) (omega (arith, a, odd)) (omega (arith, b)) c t)
+        (λ c. e (i / 2) (j / 2 + 1) (omega (arith, a)) (omega (arith, b, odd′)) c t) l) 12
     by false true f g =
         let odd = ltb-true (2 * (j / 2)) j g in
-        λ t. rounded (ruleBy (along three) (λ c. e (i / 2) (j / 2 + 1) (omega (arith, a)) (omega (arith, b, odd)) c t) (λ c. e (i / 2) (j / 2) (omega (arith, a)) (omega (arith, b)) c t) l) 12
+        λ t. rounded (ruleBy (along three) (λ c. e (i / 2) (j / 2 + 1) (omega (arith, a)) (omega (arith, b, odd)) c t)
+        (λ c. e (i / 2) (j / 2) (omega (arith, a)) (omega (arith, b)) c t) l) 12
 
 -- ---- the refined net as it is stored
 
-pub refined-length : (net : List ℤ) (w h k : ℕ) → length (refinedNet net w h k) ≡ numbers (sideAfter k w) (sideAfter k h)
+pub refined-length : (net : List ℤ) (w h k : ℕ) →
+    length (refinedNet net w h k) ≡ numbers (sideAfter k w) (sideAfter k h)
 unfolding refinedNet
 refined-length net w h k = stored-length (λ x. refinements k (field net w x)) (sideAfter k w) (sideAfter k h)
 
 -- no step: the net's own numbers
-vertex-part : (net : List ℤ) (w : ℕ) (v : Vertex) → start w v + stride ≤ length net → vertexRun (field net w) v ≡ vertexNumbers net w v
+vertex-part : (net : List ℤ) (w : ℕ) (v : Vertex) → start w v + stride ≤ length net →
+    vertexRun (field net w) v ≡ vertexNumbers net w v
 unfolding runs
 vertex-part net w v l =
     let part = vertexNumbers net w v in
-    let long : length part ≡ stride = omega (arith, length-take stride (drop (start w v) net), length-drop (start w v) net, l) in
+    let long : length part ≡ stride =
+    omega (arith, length-take stride (drop (start w v) net), length-drop (start w v) net, l) in
     let same : (k : Index) (x : ℕ) → x < 3 → field net w x v k ≡ number part (pointStride * rank k + x) =
     λ k x c. field-number net w v k x c
-    ∙ sym (getD-take stride (drop (start w v) net) (pointStride * rank k + x) (pos 0) (within-record k x c) ∙ getD-drop (start w v) net (pointStride * rank k + x) (pos 0)) in
-    let point : (k : Index) → pointAt (field net w) v k ≡ pointAt (λ x u m. number part (pointStride * rank m + x)) v k =
+    ∙ sym (getD-take stride (drop (start w v) net) (pointStride * rank k + x) (pos 0) (within-record k x c)
+    ∙ getD-drop (start w v) net (pointStride * rank k + x) (pos 0)) in
+    let point : (k : Index) →
+    pointAt (field net w) v k ≡ pointAt (λ x u m. number part (pointStride * rank m + x)) v k =
     λ k t. same k 0 (lit< tt) t ∷ same k 1 (lit< tt) t ∷ same k 2 (lit< tt) t ∷ [] in
     (λ t. point one t ++ point two t ++ point three t) ∙ array-elements (pos 0) part stride long
 
@@ -122,4 +135,5 @@ step-more net w h k old =
     let n = sideAfter k h in
     let F : Fields = λ x. refinements k (field net w x) in
     stored-same (refinedFields (over (stored F m n) old) m) (λ x. refinement (F x)) (refinedSide m) (refinedSide n)
-    (λ x c. refinement-local (field (over (stored F m n) old) m x) (F x) m n (λ i j a b l. stored-field F m n old i j a b l x c))
+    (λ x c. refinement-local (field (over (stored F m n) old) m x) (F x) m n
+    (λ i j a b l. stored-field F m n old i j a b l x c))

@@ -54,9 +54,9 @@ scratchNeed k w h = cond (ltb k 2) 0 (numbersAfter (k - 1) w h)
 
 -- worked cases: of a net of 2 by 2 whose one number that is not 0 is z of c1 of its vertex (0, 0), document 01's 120:
 -- as it is stored, no step copies it, and after one step z of the controls of vertices (0, 0), (1, 0) and (0, 1) are
--- 80, 20, 20, then 0, 60, 60, then 30, 0, 60; of the net of 2 by 3 whose numbers are the squares, no step and, after one
--- step, the records of vertices (1, 3) and (2, 4) of the 3 by 5; 17 by 17 after six steps has 9,455,625 numbers, 2 by 3
--- after one has 135, and one step needs no scratch
+-- 80, 20, 20, then 0, 60, 60, then 30, 0, 60; of the net of 2 by 3 whose numbers are the squares, no step and, after
+-- one step, the records of vertices (1, 3) and (2, 4) of the 3 by 5; 17 by 17 after six steps has 9,455,625 numbers, 2
+-- by 3 after one has 135, and one step needs no scratch
 abbrev raised : List ℤ
 raised = pos 0 ∷ pos 0 ∷ pos 120 ∷ replicate (numbers 2 2 - 3) (pos 0)
 
@@ -71,7 +71,8 @@ refined-once :
     (heights 0 ≡ pos 0 ∷ pos 0 ∷ pos 80 ∷ pos 0 ∷ pos 0 ∷ pos 20 ∷ pos 0 ∷ pos 0 ∷ pos 20 ∷ [])
     × (heights 1 ≡ pos 0 ∷ pos 0 ∷ pos 0 ∷ pos 0 ∷ pos 0 ∷ pos 60 ∷ pos 0 ∷ pos 0 ∷ pos 60 ∷ [])
     × (heights 3 ≡ pos 0 ∷ pos 0 ∷ pos 30 ∷ pos 0 ∷ pos 0 ∷ pos 0 ∷ pos 0 ∷ pos 0 ∷ pos 60 ∷ [])
-    × (refinedControls raised 2 (vertexAt 1 0) ≡ (pos 0 ∷ pos 0 ∷ pos 0 ∷ []) ∷ (pos 0 ∷ pos 0 ∷ pos 60 ∷ []) ∷ (pos 0 ∷ pos 0 ∷ pos 60 ∷ []) ∷ [])
+    × (refinedControls raised 2 (vertexAt 1 0) ≡ (pos 0 ∷ pos 0 ∷ pos 0 ∷ []) ∷ (pos 0 ∷ pos 0 ∷ pos 60 ∷ [])
+    ∷ (pos 0 ∷ pos 0 ∷ pos 60 ∷ []) ∷ [])
 unfolding refinedNet refinedControls stored grid runs refinement exactRefinement rounded floorQuotient controlTriangle controlPoint
 refined-once = (refl, refl, refl, refl)
 
@@ -85,5 +86,6 @@ of-squares :
 unfolding refinedNet stored grid runs refinement exactRefinement rounded floorQuotient controlTriangle controlPoint
 of-squares = (refl, refl, refl)
 
-sizes : (numbersAfter 6 17 17 ≡ 9455625) × (numbersAfter 1 2 3 ≡ 135) × (scratchNeed 6 17 17 ≡ 2368521) × (scratchNeed 1 17 17 ≡ 0) × (scratchNeed 2 2 2 ≡ 81)
+sizes : (numbersAfter 6 17 17 ≡ 9455625) × (numbersAfter 1 2 3 ≡ 135) × (scratchNeed 6 17 17 ≡ 2368521)
+    × (scratchNeed 1 17 17 ≡ 0) × (scratchNeed 2 2 2 ≡ 81)
 sizes = (refl, refl, refl, refl, refl)

@@ -29,19 +29,22 @@ StepReady net w h out = Depth w h 1 × (numbers w h ≤ length net) × (numbersA
 
 -- the control points of a control triangle, one stored after the other
 abbrev pub threePoints : List ℤ → ℕ → List (List ℤ) → List ℤ
-threePoints l at c = sets (sets (sets l at (getD c 0 [])) (at + pointStride) (getD c 1 [])) (at + 2 * pointStride) (getD c 2 [])
+threePoints l at c =
+    sets (sets (sets l at (getD c 0 [])) (at + pointStride) (getD c 1 [])) (at + 2 * pointStride) (getD c 2 [])
 
 -- worked cases: 17 by 17 by six steps; a control triangle over the front of ten numbers
 six-steps : Depth 17 17 6
 six-steps = record { few = lit≤ tt; wide = lit≤ tt; narrow = lit≤ tt; high = lit≤ tt; low = lit≤ tt }
 
 nine-of-ten :
-    threePoints (replicate 10 (pos 0)) 0 ((pos 1 ∷ pos 2 ∷ pos 3 ∷ []) ∷ (pos 4 ∷ pos 5 ∷ pos 6 ∷ []) ∷ (pos 7 ∷ pos 8 ∷ pos 9 ∷ []) ∷ [])
+    threePoints (replicate 10 (pos 0)) 0
+    ((pos 1 ∷ pos 2 ∷ pos 3 ∷ []) ∷ (pos 4 ∷ pos 5 ∷ pos 6 ∷ []) ∷ (pos 7 ∷ pos 8 ∷ pos 9 ∷ []) ∷ [])
     ≡ pos 1 ∷ pos 2 ∷ pos 3 ∷ pos 4 ∷ pos 5 ∷ pos 6 ∷ pos 7 ∷ pos 8 ∷ pos 9 ∷ pos 0 ∷ []
 nine-of-ten = refl
 
 -- of five numbers the first two have changed, and so not the first alone; and a slice stays as long as it was
-unchanged-from : UnchangedFrom 2 (pos 1 ∷ pos 2 ∷ pos 3 ∷ pos 4 ∷ pos 5 ∷ []) (pos 9 ∷ pos 9 ∷ pos 3 ∷ pos 4 ∷ pos 5 ∷ [])
+unchanged-from : UnchangedFrom 2 (pos 1 ∷ pos 2 ∷ pos 3 ∷ pos 4 ∷ pos 5 ∷ [])
+    (pos 9 ∷ pos 9 ∷ pos 3 ∷ pos 4 ∷ pos 5 ∷ [])
 unchanged-from = (refl, refl)
 
 changed-further : UnchangedFrom 1 (pos 1 ∷ pos 2 ∷ []) (pos 9 ∷ pos 8 ∷ []) → ⊥

@@ -27,13 +27,25 @@ comes-from v = by (isOdd (v .column)) (isOdd (v .row)) refl refl
     twice-and-one n e = omega (arith, ltb-true (2 * (n / 2)) n e)
 
     by : (a b : Bool) → isOdd (v .column) ≡ a → isOdd (v .row) ≡ b →
-        ComesFrom v (kindBy a b) (beginBy (kindBy a b) (v .column / 2) (v .row / 2)) (endBy (kindBy a b) (v .column / 2) (v .row / 2))
+        ComesFrom v (kindBy a b) (beginBy (kindBy a b) (v .column / 2) (v .row / 2))
+        (endBy (kindBy a b) (v .column / 2) (v .row / 2))
     by false false e f = (twice (v .column) e, twice (v .row) f)
-    by true false e f = (omega (arith, twice-and-one (v .column) e), omega (arith, twice (v .row) f), refl, stays (v .row / 2))
-    by true true e f =
-        (omega (arith, twice-and-one (v .column) e), omega (arith, twice-and-one (v .row) f), back (v .column / 2), refl)
-    by false true e f =
-        (omega (arith, twice (v .column) e), omega (arith, twice-and-one (v .row) f), stays (v .column / 2), back (v .row / 2))
+    by true false e f =
+        (omega (arith, twice-and-one (v .column) e), omega (arith, twice (v .row) f), refl, stays (v .row / 2))
+    by true true e f = (
+      omega (arith, twice-and-one (v .column) e),
+      omega (arith, twice-and-one (v .row) f),
+      back
+          (v .column / 2),
+      refl,
+    )
+    by false true e f = (
+      omega (arith, twice (v .column) e),
+      omega (arith, twice-and-one (v .row) f),
+      stays (v .column / 2),
+      back
+          (v .row / 2),
+    )
 
 -- ---- the children of a triangle
 
@@ -59,7 +71,8 @@ childBy true middle i j = triangleAt (2 * i + 1) (2 * j + 1) false
 abbrev pub child : Triangle → Child → Triangle
 child t c = childBy (t .down) c (t .column) (t .row)
 
-pub child-of-net : (w h : ℕ) (t : Triangle) (c : Child) → OfNet w h t → OfNet (refinedSide w) (refinedSide h) (child t c)
+pub child-of-net : (w h : ℕ) (t : Triangle) (c : Child) → OfNet w h t →
+    OfNet (refinedSide w) (refinedSide h) (child t c)
 child-of-net w h t c g = by (t .down) c
   where
     by : (down : Bool) (c : Child) → OfNet (refinedSide w) (refinedSide h) (childBy down c (t .column) (t .row))
@@ -108,7 +121,8 @@ odd : (i : ℕ) → Halved (2 * i + 1) true i
 odd i = record { parity = lt-ltb (2 * ((2 * i + 1) / 2)) (2 * i + 1) (omega arith); half-of = omega arith }
 
 even-next : (i : ℕ) → Halved (2 * i + 1 + 1) false (i + 1)
-even-next i = record { parity = le-ltb (2 * ((2 * i + 1 + 1) / 2)) (2 * i + 1 + 1) (omega arith); half-of = omega arith }
+even-next i =
+    record { parity = le-ltb (2 * ((2 * i + 1 + 1) / 2)) (2 * i + 1 + 1) (omega arith); half-of = omega arith }
 
 -- what a refined vertex comes from
 pub record HalvedFrom (v : Vertex) (k : Kind) (A B : Vertex) : Type 0 where
@@ -116,7 +130,8 @@ pub record HalvedFrom (v : Vertex) (k : Kind) (A B : Vertex) : Type 0 where
   pub begins : beginOf v ≡ A
   pub ends : endOf v ≡ B
 
-halved-from : {m n i j : ℕ} {a b : Bool} → Halved m a i → Halved n b j → HalvedFrom (vertexAt m n) (kindBy a b) (beginBy (kindBy a b) i j) (endBy (kindBy a b) i j)
+halved-from : {m n i j : ℕ} {a b : Bool} → Halved m a i → Halved n b j →
+    HalvedFrom (vertexAt m n) (kindBy a b) (beginBy (kindBy a b) i j) (endBy (kindBy a b) i j)
 halved-from h k =
     record {
       kind = λ t. kindBy (h .parity t) (k .parity t);

@@ -30,7 +30,8 @@ module _ (T : Table) (e : passes T ≡ true) where
       zeros (suc (suc zero)) = refl
       zeros (suc (suc (suc j))) = refl
 
-  kept-alone : (l : Index) (a b b′ : Index → ℤ) → weightedSum (weightsAt T 0 l) (six a b) ≡ weightedSum (weightsAt T 0 l) (six a b′)
+  kept-alone : (l : Index) (a b b′ : Index → ℤ) →
+      weightedSum (weightsAt T 0 l) (six a b) ≡ weightedSum (weightsAt T 0 l) (six a b′)
   kept-alone l a b b′ = sum-same (weightsAt T 0 l) (six a b) (six a b′) refl at
     where
       at : (i : ℕ) → (getD (weightsAt T 0 l) i (pos 0) ≡ pos 0) ⊎ (getD (six a b) i (pos 0) ≡ getD (six a b′) i (pos 0))
@@ -51,7 +52,8 @@ module _ (T : Table) (e : passes T ≡ true) where
         (let X = source k P .0 in
         let Y = source k P .1 in
         exactBy T F (corner (child t k) P) l
-        ≡ weightedSum (weightsAt T (kindNumber (kindBetween (t .down) X Y)) l) (six (F (corner t (beginBetween X Y))) (F (corner t (endBetween X Y)))))
+        ≡ weightedSum (weightsAt T (kindNumber (kindBetween (t .down) X Y)) l)
+        (six (F (corner t (beginBetween X Y))) (F (corner t (endBetween X Y)))))
     unfolding exactBy
     child-mean t k P l =
         let b = child-corner t k P in

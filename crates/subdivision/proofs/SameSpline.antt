@@ -95,7 +95,8 @@ abbrev parentE : Bool → Child → Expr
 parentE down k =
     lit (pos 3)
     ⊗ summed
-    (bySharesE (shareE k one) (shareE k two) (shareE k three) (differenceE k one) (differenceE k two) (differenceE k three))
+    (bySharesE (shareE k one) (shareE k two) (shareE k three) (differenceE k one) (differenceE k two)
+    (differenceE k three))
     (inForm down (nine 6) o123)
 
 squares : (m n : ℕ) → m ≡ n → square m ≡ square n
@@ -122,8 +123,12 @@ module _ (s : Index → ℕ) (c : Controls) where
     refl,
     squares (S (at two) two - S (at two) three) (s one + s two + s two) (omega arith),
   )
-  differences (at three) =
-      (refl, squares (S (at three) one - S (at three) three) 0 (omega arith), squares (S (at three) two - S (at three) three) 0 (omega arith))
+  differences (at three) = (
+    refl,
+    squares (S (at three) one - S (at three) three) 0 (omega arith),
+    squares
+        (S (at three) two - S (at three) three) 0 (omega arith),
+  )
   differences middle = (
     squares (S middle one - S middle two) (s two - s three) (omega arith),
     squares (S middle one - S middle three) (s one - s three) (omega arith),
@@ -135,7 +140,8 @@ module _ (s : Index → ℕ) (c : Controls) where
   abbrev SameValue : Bool → Child → Type 0
   SameValue down k =
       weightedSum
-      (byShares (s one) (s two) (s three) (square (s one - s two)) (square (s one - s three)) (square (s two - s three)))
+      (byShares (s one) (s two) (s three) (square (s one - s two)) (square (s one - s three))
+      (square (s two - s three)))
       (inForm (childDown down k) (childControls down k c) o123)
       ≡ pos 3
       *ℤ weightedSum
@@ -208,7 +214,8 @@ step-in F w h D p q t S d g l =
     let k = n .which in
     let s = n .shares in
     let c = controlsOf F t in
-    spline-by-shares (exactRefinement F) (refinedSide w) (refinedSide h) D p q (child t k) s d (child-of-net w h t k g) (n .lies)
+    spline-by-shares (exactRefinement F) (refinedSide w) (refinedSide h) D p q (child t k) s d (child-of-net w h t k g)
+    (n .lies)
     ∙ (λ i. weightedSum (controlWeights (child-is-down t k i) s) (controlList (λ P l. child-controls F t k P l i)))
     ∙ child-value s c (t .down) k
     ∙ (λ i. pos 3 *ℤ weightedSum (controlWeights (t .down) (λ P. n .from P i)) (controlList c))
@@ -244,6 +251,8 @@ same-splines (suc k) F w h D p q d a b g =
     let b′ = side-at-least k h b in
     let edges : 2 * D * 2 ^ k ≡ D * 2 ^ suc k = omega (arith, ap (λ (n : ℕ). D * n) (pow-suc 2 k)) in
     same-spline (exactRefinements k F) u v D p q d a′ b′ g
-    ∙ ap (λ (z : ℤ). pos 3 *ℤ z) (same-splines k F w h (2 * D) p q (omega (arith, d)) a b (coarser-grid D u v p q a′ b′ g))
-    ∙ identity (lit (pos 3) ⊗ (var 0 ⊗ var 1)) (var 0 ⊗ lit (pos 3) ⊗ var 1) (pos (3 ^ k) ∷ spline F w h (2 * D * 2 ^ k) p q ∷ []) refl
+    ∙ ap (λ (z : ℤ). pos 3 *ℤ z)
+    (same-splines k F w h (2 * D) p q (omega (arith, d)) a b (coarser-grid D u v p q a′ b′ g))
+    ∙ identity (lit (pos 3) ⊗ (var 0 ⊗ var 1)) (var 0 ⊗ lit (pos 3) ⊗ var 1)
+    (pos (3 ^ k) ∷ spline F w h (2 * D * 2 ^ k) p q ∷ []) refl
     ∙ (λ t. pos (sym (pow-suc 3 k) t) *ℤ spline F w h (edges t) p q)

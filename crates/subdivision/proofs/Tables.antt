@@ -27,7 +27,8 @@ both : (a b : Bool) → (a && b) ≡ true → (a ≡ true) × (b ≡ true)
 both true b e = (refl, e)
 both false b e = (e, absurd (subst T (sym e) tt))
 
-every-at : {A : Type 0} (test : A → Bool) (xs : List A) (d : A) → every test xs ≡ true → (i : ℕ) → i < length xs → test (getD xs i d) ≡ true
+every-at : {A : Type 0} (test : A → Bool) (xs : List A) (d : A) → every test xs ≡ true → (i : ℕ) → i < length xs →
+    test (getD xs i d) ≡ true
 every-at test [] d e i h = absurd (omega (arith, h))
 every-at test (x ∷ xs) d e zero h = both (test x) (every test xs) e .0
 every-at test (x ∷ xs) d e (suc i) h = every-at test xs d (both (test x) (every test xs) e .1) i (omega (arith, h))
@@ -36,7 +37,8 @@ every-at test (x ∷ xs) d e (suc i) h = every-at test xs d (both (test x) (ever
 abbrev pub rowAt : Table → ℕ → Index → List ℕ
 rowAt t n l = getD (getD t n []) (rank l) []
 
-kind-row : (test : List ℕ → Bool) (rows : List (List ℕ)) → goodKind test rows ≡ true → (l : Index) → test (getD rows (rank l) []) ≡ true
+kind-row : (test : List ℕ → Bool) (rows : List (List ℕ)) → goodKind test rows ≡ true → (l : Index) →
+    test (getD rows (rank l) []) ≡ true
 kind-row test rows e l =
     let h = both (eqb (length rows) 3) (every test rows) e in
     every-at test rows [] (h .1) (rank l) (omega (arith, eqb-true (length rows) 3 (h .0), below-three l refl))
@@ -50,7 +52,8 @@ pub row-passes : (t : Table) → passes t ≡ true → (n : ℕ) → n < 4 → (
 row-passes t e zero h l = both _ _ (kept-passes t e l) .0
 row-passes [] e (suc n) h l = absurd (subst T (sym e) tt)
 row-passes (keptRows ∷ edges) e (suc n) h l =
-    let g = both (eqb (length edges) 3) (every (goodKind goodRow) edges) (both (goodKind goodKeptRow keptRows) _ e .1) in
+    let g =
+    both (eqb (length edges) 3) (every (goodKind goodRow) edges) (both (goodKind goodKeptRow keptRows) _ e .1) in
     let edge = every-at (goodKind goodRow) edges [] (g .1) n (omega (arith, eqb-true (length edges) 3 (g .0), h)) in
     kind-row goodRow (getD edges n []) edge l
 
@@ -104,7 +107,8 @@ row-not-negative t e n h l = not-negative (rowAt t n l)
 pub kept-row : (t : Table) → passes t ≡ true → (l : Index) → drop 3 (weightsAt t 0 l) ≡ pos 0 ∷ pos 0 ∷ pos 0 ∷ []
 kept-row t e l =
     let row = rowAt t 0 l in
-    let long : length (drop 3 row) ≡ 3 = omega (arith, length-drop 3 row, good-length row (row-passes t e 0 (omega arith) l)) in
+    let long : length (drop 3 row)
+    ≡ 3 = omega (arith, length-drop 3 row, good-length row (row-passes t e 0 (omega arith) l)) in
     drop-map 3 row
     ∙ ap (map pos) (zeros (drop 3 row) (both (goodRow row) (every (λ m. eqb m 0) (drop 3 row)) (kept-passes t e l) .1))
     ∙ ap (λ (k : ℕ). map pos (replicate k 0)) long
@@ -123,7 +127,8 @@ byRule = ruleE (λ k. var (rank k)) (λ k. var (3 + rank k))
 abbrev byTable : Kind → Index → Expr
 byTable n l = sumFrom (weightsAt weights (kindNumber n) l) 0
 
-pub our-rule : (n : Kind) (a b : Index → ℤ) (l : Index) → weightedSum (weightsAt weights (kindNumber n) l) (six a b) ≡ ruleBy n a b l
+pub our-rule : (n : Kind) (a b : Index → ℤ) (l : Index) →
+    weightedSum (weightsAt weights (kindNumber n) l) (six a b) ≡ ruleBy n a b l
 unfolding weightedSum
 our-rule kept a b one = identity (byTable kept one) (byRule kept one) (six a b) refl
 our-rule kept a b two = identity (byTable kept two) (byRule kept two) (six a b) refl
@@ -153,8 +158,12 @@ unfolding refinedBy
 step-nearest T F v l = nearest (exactBy T F v l) 12 (lit< tt)
 
 pub quotients : Quotients
-quotients z =
-    (rounded-scale 2 z 6 (lit< tt) (lit< tt), rounded-scale 6 z 2 (lit< tt) (lit< tt), rounded-scale 3 z 4 (lit< tt) (lit< tt))
+quotients z = (
+  rounded-scale 2 z 6 (lit< tt) (lit< tt),
+  rounded-scale 6 z 2 (lit< tt) (lit< tt),
+  rounded-scale 3 z 4 (lit< tt)
+      (lit< tt),
+)
 
 -- ---- the rule on control triangles is one refinement of a stored net
 
@@ -172,7 +181,8 @@ module _ (t : Table) (n : ℕ) (a b : List (List ℤ)) where
   triangle-number three = point-number three
 
 pub rule-refines : (t : Table) (net : List ℤ) (w : ℕ) (v : Vertex) (l : Index) (x : ℕ) → x < 3 →
-    entry (refinedTriangle t (kindNumber (kindOf v)) (controlTriangle net w (beginOf v)) (controlTriangle net w (endOf v))) l x
+    entry (refinedTriangle t (kindNumber (kindOf v)) (controlTriangle net w (beginOf v))
+    (controlTriangle net w (endOf v))) l x
     ≡ refinedBy t (field net w x) v l
 unfolding refinedBy exactBy
 rule-refines t net w v =

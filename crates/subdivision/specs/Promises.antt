@@ -26,12 +26,14 @@ VerticesComeFrom = (v : Vertex) → ComesFrom v (kindOf v) (beginOf v) (endOf v)
 -- 6 and 3 (`quotients`)
 abbrev pub Quotients : Type 0
 Quotients =
-    (z : ℤ) → (rounded (pos 2 *ℤ z) 12 ≡ rounded z 6) × (rounded (pos 6 *ℤ z) 12 ≡ rounded z 2) × (rounded (pos 3 *ℤ z) 12 ≡ rounded z 4)
+    (z : ℤ) → (rounded (pos 2 *ℤ z) 12 ≡ rounded z 6) × (rounded (pos 6 *ℤ z) 12 ≡ rounded z 2)
+    × (rounded (pos 3 *ℤ z) 12 ≡ rounded z 4)
 
 -- 'Each value is rounded as above', once: by every table a refined value is nearest to its exact one, which is whole
 -- times 12 (`step-nearest`)
 abbrev pub StepNearest : Type 0
-StepNearest = (T : Table) (F : Field) (v : Vertex) (l : Index) → 2 * natAbs (pos 12 *ℤ refinedBy T F v l -ℤ exactBy T F v l) ≤ 12
+StepNearest =
+    (T : Table) (F : Field) (v : Vertex) (l : Index) → 2 * natAbs (pos 12 *ℤ refinedBy T F v l -ℤ exactBy T F v l) ≤ 12
 
 -- our table is document 01's rule: the exact refinement (`our-table`), and the rounded one (`our-refinement`)
 abbrev pub OurTable : Type 0

@@ -92,9 +92,9 @@ weights =
 pub weights-pass : passes weights ≡ true
 weights-pass = refl
 
--- worked cases: control 2 on an edge along e1 is (2a1 + a2 + b2)/4; another table passes; one whose kept row looks at the
--- neighbour does not, nor does one with a row that sums to 11, one with a row of five weights, one with a fourth control
--- and one without the edges along e3
+-- worked cases: control 2 on an edge along e1 is (2a1 + a2 + b2)/4; another table passes; one whose kept row looks at
+-- the neighbour does not, nor does one with a row that sums to 11, one with a row of five weights, one with a fourth
+-- control and one without the edges along e3
 edge-row : weightsAt weights (kindNumber (along one)) two ≡ map pos (row6 6 3 0 0 3 0)
 edge-row = refl
 

@@ -20,7 +20,8 @@ use Rattle.surface.specs.Refusals.{pointRefusal}
 
 -- ---- the corners of a place's triangle are vertices of the net
 
-corner-near : (down : Bool) (i j : ℕ) (P : Index) → (cornerOf down i j P .column ≤ i + 1) × (cornerOf down i j P .row ≤ j + 1)
+corner-near : (down : Bool) (i j : ℕ) (P : Index) →
+    (cornerOf down i j P .column ≤ i + 1) × (cornerOf down i j P .row ≤ j + 1)
 corner-near false i j one = (omega arith, omega arith)
 corner-near false i j two = (omega arith, omega arith)
 corner-near false i j three = (omega arith, omega arith)
@@ -46,13 +47,17 @@ good-sides w h a b c d = sym (or-no (badSide w) (badSide h) (side w a b) (sym (s
     side : (n : ℕ) → 2 ≤ n → n ≤ 1025 → badSide n ≡ false
     side n low high = sym (or-no (ltb n 2) (ltb 1025 n) (le-ltb n 2 low) (sym (le-ltb 1025 n high)))
 
-pub point-not-refused : (net : List ℤ) (w h : ℕ) → AcceptedNet net w h → (p q : ℕ) → OnGrid 1024 w h p q → pointRefusal net w h p q ≡ 0
+pub point-not-refused : (net : List ℤ) (w h : ℕ) → AcceptedNet net w h → (p q : ℕ) → OnGrid 1024 w h p q →
+    pointRefusal net w h p q ≡ 0
 point-not-refused net w h a p q g =
     let t = chosen 1024 w h p q in
     let fine : (P : Index) → anyBeyond (vertexNumbers net w (corner t P)) ≡ false =
     λ P.
     let c = corner-in-net w h p q (a .size) g P in
     let v = corner t P in
-    part-in-range net w h (start w v) stride (a .inRange) (vertex-ends {w = w} {h = h} {i = v .column} {j = v .row} (c .0) (c .1)) in
-    let triangle : triangleBeyond net w t ≡ false = sym (or-no _ _ (fine one) (or-no _ _ (fine two) (sym (fine three)))) in
-    sym (cond-false _ 1 _ (a .size) (cond-false _ 6 _ (on-the-grid 1024 w h p q g) (cond-false _ 2 _ (a .long) (cond-false _ 3 _ triangle refl))))
+    part-in-range net w h (start w v) stride (a .inRange) (vertex-ends {w =
+    w} {h = h} {i = v .column} {j = v .row} (c .0) (c .1)) in
+    let triangle : triangleBeyond net w t
+    ≡ false = sym (or-no _ _ (fine one) (or-no _ _ (fine two) (sym (fine three)))) in
+    sym (cond-false _ 1 _ (a .size)
+    (cond-false _ 6 _ (on-the-grid 1024 w h p q g) (cond-false _ 2 _ (a .long) (cond-false _ 3 _ triangle refl))))

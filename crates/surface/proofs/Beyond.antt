@@ -33,8 +33,10 @@ cut-point-refusal net w h p q =
     cond-else (badSize w h) 1 (λ e₁. cond-else (noPlace 1024 w h p q) 6 (λ e₆.
     cond-else (shortNet net w h) 2 (λ e₂.
     ap (λ (b : Bool). cond b 3 0)
-    (cut-triangle net w h (chosen 1024 w h p q) (cells-in-grid w h p q e₁ e₆) (ltb-false (length net) (numbers w h) e₂)))
-    ∙ ap (λ (b : Bool). cond b 2 (cond (triangleBeyond (cut net w h) w (chosen 1024 w h p q)) 3 0)) (cut-short net w h)))
+    (cut-triangle net w h (chosen 1024 w h p q) (cells-in-grid w h p q e₁ e₆)
+    (ltb-false (length net) (numbers w h) e₂)))
+    ∙ ap (λ (b : Bool). cond b 2 (cond (triangleBeyond (cut net w h) w (chosen 1024 w h p q)) 3 0))
+    (cut-short net w h)))
 
 cut-coordinate : (net : List ℤ) (w h p q : ℕ) → InGrid w h (cell 1024 w p) (cell 1024 h q) → (x : ℕ) → x < 3 →
     coordinate net w h p q x ≡ coordinate (cut net w h) w h p q x
@@ -45,10 +47,12 @@ cut-coordinate net w h p q g x b =
     λ i. rounded (valueIn (t .down) (cut-controls net w h t g x b i) (orderOf s) s) 37748736
 
 -- a point that is accepted is the same
-cut-point : (net : List ℤ) (w h p q : ℕ) → accepted (pointRefusal net w h p q) ≡ true → surfacePoint net w h p q ≡ surfacePoint (cut net w h) w h p q
+cut-point : (net : List ℤ) (w h p q : ℕ) → accepted (pointRefusal net w h p q) ≡ true →
+    surfacePoint net w h p q ≡ surfacePoint (cut net w h) w h p q
 cut-point net w h p q e =
     let g = place-grid-of net w h p q (eqb-true (pointRefusal net w h p q) 0 e) in
-    λ i. cut-coordinate net w h p q g 0 (lit< tt) i ∷ cut-coordinate net w h p q g 1 (lit< tt) i ∷ cut-coordinate net w h p q g 2 (lit< tt) i ∷ []
+    λ i. cut-coordinate net w h p q g 0 (lit< tt) i ∷ cut-coordinate net w h p q g 1 (lit< tt) i
+    ∷ cut-coordinate net w h p q g 2 (lit< tt) i ∷ []
 
 -- so the answers are
 answers-alike : {A : Type 0} {r r′ : ℕ} {v v′ : List A} → r ≡ r′ → (accepted r ≡ true → v ≡ v′) →

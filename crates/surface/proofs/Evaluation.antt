@@ -29,7 +29,8 @@ squares-sum A B G =
     identity
     (var 0 ⊗ var 0
     ⊕ (lit (pos 2) ⊗ (var 0 ⊗ var 1)
-    ⊕ (lit (pos 2) ⊗ (var 0 ⊗ var 2) ⊕ (var 1 ⊗ var 1 ⊕ (lit (pos 2) ⊗ (var 1 ⊗ var 2) ⊕ (var 2 ⊗ var 2 ⊕ lit (pos 0)))))))
+    ⊕ (lit (pos 2) ⊗ (var 0 ⊗ var 2) ⊕ (var 1 ⊗ var 1 ⊕ (lit
+    (pos 2) ⊗ (var 1 ⊗ var 2) ⊕ (var 2 ⊗ var 2 ⊕ lit (pos 0)))))))
     ((var 0 ⊕ var 1 ⊕ var 2) ⊗ (var 0 ⊕ var 1 ⊕ var 2))
     (pos A ∷ pos B ∷ pos G ∷ [])
     refl
@@ -82,4 +83,6 @@ pub part : (z : ℤ) {row k : List ℤ} → mag z < 2 ^ 63 → Summed row k z �
 part z g s = reads-as w64 z g (s .sum)
 
 pub none : (k : List ℤ) → length k ≡ 6 → pos 0 ≡ weightedSum (pos 0 ∷ pos 0 ∷ pos 0 ∷ pos 0 ∷ pos 0 ∷ pos 0 ∷ []) k
-none k e = sym (sum-expression (pos 0 ∷ pos 0 ∷ pos 0 ∷ pos 0 ∷ pos 0 ∷ pos 0 ∷ []) k 0 (omega (arith, e)) ∙ identity (sumFrom (pos 0 ∷ pos 0 ∷ pos 0 ∷ pos 0 ∷ pos 0 ∷ pos 0 ∷ []) 0) (lit (pos 0)) k refl)
+none k e =
+    sym (sum-expression (pos 0 ∷ pos 0 ∷ pos 0 ∷ pos 0 ∷ pos 0 ∷ pos 0 ∷ []) k 0 (omega (arith, e))
+    ∙ identity (sumFrom (pos 0 ∷ pos 0 ∷ pos 0 ∷ pos 0 ∷ pos 0 ∷ pos 0 ∷ []) 0) (lit (pos 0)) k refl)

@@ -30,7 +30,8 @@ use Rattle.surface.specs.Refusals.{pointRefusal}
 use Rattle.surface.specs.Answers.{pointAnswer, viewAnswer, viewPoint, millimetres}
 use Rattle.surface.specs.Evaluation.{evaluated, Evaluable}
 
-pub in-net-place : (net : List ℤ) (w h p q : ℕ) → badSize w h ≡ false → noPlace 1024 w h p q ≡ false → shortNet net w h ≡ false →
+pub in-net-place : (net : List ℤ) (w h p q : ℕ) → badSize w h ≡ false → noPlace 1024 w h p q ≡ false →
+    shortNet net w h ≡ false →
     InNet net w (cell 1024 w p) (cell 1024 h q)
 in-net-place net w h p q e₁ e₆ e₂ = in-net net e₁ e₂ (cells-in-grid w h p q e₁ e₆)
 
@@ -45,25 +46,30 @@ shares-are s {a} {b} {d} e f g = λ t k. at k t
     at two = f
     at three = g
 
-pub in-order-of : (s : Index → ℕ) {a b d : ℕ} → a ≡ s one → b ≡ s two → d ≡ s three → {P Q T : ℕ} {ahead : Bool} {A B G : ℕ} →
+pub in-order-of : (s : Index → ℕ) {a b d : ℕ} → a ≡ s one → b ≡ s two → d ≡ s three →
+    {P Q T : ℕ} {ahead : Bool} {A B G : ℕ} →
     InOrder (orderOf (shares a b d)) (shares a b d) P Q T ahead A B G → InOrder (orderOf s) s P Q T ahead A B G
 in-order-of s e f g {P} {Q} {T} {ahead} {A} {B} {G} i =
     subst (λ (l : Index → ℕ). InOrder (orderOf l) l P Q T ahead A B G) (shares-are s e f g) i
 
 -- the control triangles that the code evaluates: reordered, and arranged by the order of the shares
-pub prepared : (net : List ℤ) (w h p q : ℕ) {down : Bool} {c : List (List (List ℤ))} {P Q T : ℕ} {ahead : Bool} {A B G : ℕ} →
+pub prepared : (net : List ℤ)
+    (w h p q : ℕ) {down : Bool} {c : List (List (List ℤ))} {P Q T : ℕ} {ahead : Bool} {A B G : ℕ} →
     down ≡ chosen 1024 w h p q .down → c ≡ cornerControls net w (chosen 1024 w h p q) →
     InOrder (orderOf (share 1024 w h p q)) (share 1024 w h p q) P Q T ahead A B G →
     (x : ℕ) → valuesIn (arranged P Q T (reorderedControls down c)) x
-    ≡ inForm (chosen 1024 w h p q .down) (controlsOf (field net w x) (chosen 1024 w h p q)) (orderOf (share 1024 w h p q))
+    ≡ inForm (chosen 1024 w h p q .down) (controlsOf (field net w x) (chosen 1024 w h p q))
+    (orderOf (share 1024 w h p q))
 prepared net w h p q ek ec i x =
     let t = chosen 1024 w h p q in
-    (λ k. valuesIn (arranged (i .first-corner k) (i .second-corner k) (i .last-corner k) (reorderedControls (ek k) (ec k))) x)
+    (λ k. valuesIn (arranged (i .first-corner k) (i .second-corner k) (i .last-corner k)
+    (reorderedControls (ek k) (ec k))) x)
     ∙ form-values (t .down) (orderOf (share 1024 w h p q)) (cornerControls net w t) x
     ∙ loaded-form net w t (t .down) (orderOf (share 1024 w h p q)) x
 
 -- the evaluated point is the surface point
-pub evaluated-coordinate : (net : List ℤ) (w h p q x : ℕ) {down : Bool} {c : List (List (List ℤ))} {P Q T : ℕ} {ahead : Bool} {A B G : ℕ} →
+pub evaluated-coordinate : (net : List ℤ)
+    (w h p q x : ℕ) {down : Bool} {c : List (List (List ℤ))} {P Q T : ℕ} {ahead : Bool} {A B G : ℕ} →
     down ≡ chosen 1024 w h p q .down → c ≡ cornerControls net w (chosen 1024 w h p q) →
     InOrder (orderOf (share 1024 w h p q)) (share 1024 w h p q) P Q T ahead A B G →
     evaluated ahead A B G (arranged P Q T (reorderedControls down c)) x ≡ coordinate net w h p q x
@@ -74,11 +80,13 @@ evaluated-coordinate net w h p q x ek ec i =
     let o = orderOf s in
     let values = prepared net w h p q ek ec i x in
     (λ k. rounded (weightedSum (parts (i .direction k) (i .first k) (i .second k) (i .last k)) (values k)) 37748736)
-    ∙ ap (λ (z : ℤ). rounded z 37748736) (parts-value (t .down) (controlsOf (field net w x) t) o (gapA o s) (gapB o s) (gapG o s))
+    ∙ ap (λ (z : ℤ). rounded z 37748736)
+    (parts-value (t .down) (controlsOf (field net w x) t) o (gapA o s) (gapB o s) (gapG o s))
 
 -- ---- answers
 
-pub refused-point : (net : List ℤ) (w h p q : ℕ) {n : ℕ} → n ≡ pointRefusal net w h p q → (n ≡ 0 → ⊥) → (n, []) ≡ pointAnswer net w h p q
+pub refused-point : (net : List ℤ) (w h p q : ℕ) {n : ℕ} → n ≡ pointRefusal net w h p q → (n ≡ 0 → ⊥) →
+    (n, []) ≡ pointAnswer net w h p q
 unfolding pointAnswer
 refused-point net w h p q e k =
     λ t. (e t, when-refused (pointRefusal net w h p q) (surfacePoint net w h p q) [] (λ z. k (e ∙ z)) t)
@@ -88,13 +96,19 @@ pub accepted-point : (net : List ℤ) (w h p q : ℕ) → 0 ≡ pointRefusal net
     (0, x ∷ y ∷ z ∷ []) ≡ pointAnswer net w h p q
 unfolding pointAnswer
 accepted-point net w h p q e ex ey ez =
-    λ t. (e t, ((λ k. ex k ∷ ey k ∷ ez k ∷ []) ∙ when-accepted (pointRefusal net w h p q) (surfacePoint net w h p q) [] (sym e)) t)
+    λ t. (
+      e t,
+      ((λ k. ex k ∷ ey k ∷ ez k ∷ [])
+          ∙ when-accepted (pointRefusal net w h p q) (surfacePoint net w h p q) [] (sym e)) t,
+    )
 
 -- the viewer's answer is the surface point's, coordinate by coordinate
 pub viewed : (net : List ℤ) (w h p q : ℕ) {outcome : ℕ × List ℤ} → outcome ≡ pointAnswer net w h p q →
     (outcome .0, map millimetres (outcome .1)) ≡ viewAnswer net w h p q
 unfolding pointAnswer viewAnswer
-viewed net w h p q e = (λ t. (e t .0, map millimetres (e t .1))) ∙ (λ t. (pointRefusal net w h p q, at (accepted (pointRefusal net w h p q)) t))
+viewed net w h p q e =
+    (λ t. (e t .0, map millimetres (e t .1)))
+    ∙ (λ t. (pointRefusal net w h p q, at (accepted (pointRefusal net w h p q)) t))
   where
     at : (b : Bool) → map millimetres (cond b (surfacePoint net w h p q) []) ≡ cond b (viewPoint net w h p q) []
     at true = refl
@@ -114,7 +128,8 @@ good-place net w h p q e =
     record { size = e₁ .0; place = e₆ .0; long = e₂ .0 }
 
 -- a place that 1, 6 or 2 refuses, and one that only 3 can refuse
-pub refused-place : (net : List ℤ) (w h p q : ℕ) → (placeRefusal net w h p q ≡ 0 → ⊥) → placeRefusal net w h p q ≡ pointRefusal net w h p q
+pub refused-place : (net : List ℤ) (w h p q : ℕ) → (placeRefusal net w h p q ≡ 0 → ⊥) →
+    placeRefusal net w h p q ≡ pointRefusal net w h p q
 refused-place net w h p q k =
     fault-before
     ((badSize w h, 1) ∷ (noPlace 1024 w h p q, 6) ∷ (shortNet net w h, 2) ∷ [])
@@ -129,7 +144,8 @@ range-refusal net w h p q g e =
 -- ---- the precondition of the evaluation
 
 -- the shares of a place are at most 1,024 each, and 1,024 together
-share-at : (b : Bool) (f g : ℕ) → f ≤ 1024 → g ≤ 1024 → (k : Index) → (cond b (downShare 1024 f g) (upShare 1024 f g)) k ≤ 1024
+share-at : (b : Bool) (f g : ℕ) → f ≤ 1024 → g ≤ 1024 → (k : Index) →
+    (cond b (downShare 1024 f g) (upShare 1024 f g)) k ≤ 1024
 share-at true f g a b one = omega arith
 share-at true f g a b two = omega arith
 share-at true f g a b three = omega (arith, a, b)
@@ -142,7 +158,8 @@ shares-at : (b : Bool) (f g : ℕ) → f ≤ 1024 → g ≤ 1024 → ltb 1024 (f
 shares-at true f g a b e = omega (arith, a, b, ltb-true 1024 (f + g) e)
 shares-at false f g a b e = omega (arith, ltb-false 1024 (f + g) e)
 
-pub share-small : (w h p q : ℕ) → badSize w h ≡ false → noPlace 1024 w h p q ≡ false → (k : Index) → share 1024 w h p q k ≤ 1024
+pub share-small : (w h p q : ℕ) → badSize w h ≡ false → noPlace 1024 w h p q ≡ false → (k : Index) →
+    share 1024 w h p q k ≤ 1024
 share-small w h p q e f k =
     let i = in-cells w h p q e f in
     share-at (isDown 1024 (rest 1024 w p) (rest 1024 h q)) (rest 1024 w p) (rest 1024 h q) (i .0 .left) (i .1 .left) k
@@ -151,7 +168,8 @@ pub shares-sum : (w h p q : ℕ) → badSize w h ≡ false → noPlace 1024 w h 
     share 1024 w h p q one + share 1024 w h p q two + share 1024 w h p q three ≡ 1024
 shares-sum w h p q e f =
     let i = in-cells w h p q e f in
-    shares-at (isDown 1024 (rest 1024 w p) (rest 1024 h q)) (rest 1024 w p) (rest 1024 h q) (i .0 .left) (i .1 .left) refl
+    shares-at (isDown 1024 (rest 1024 w p) (rest 1024 h q)) (rest 1024 w p) (rest 1024 h q) (i .0 .left)
+    (i .1 .left) refl
 
 -- A, B and G add up to the shares
 in-any-order : (a : Index → ℕ) (o : Order) → a (cornerP o) + a (cornerQ o) + a (cornerT o) ≡ a one + a two + a three
@@ -172,17 +190,20 @@ gaps-sum a =
     added : (x y z : ℕ) → y ≤ x → z ≤ y → (x - y) + 2 * (y - z) + 3 * z ≡ x + y + z
     added x y z a b = omega (arith, a, b)
 
-pub evaluable : (net : List ℤ) (w h p q : ℕ) → GoodPlace net w h p q → triangleBeyond net w (chosen 1024 w h p q) ≡ false →
+pub evaluable : (net : List ℤ) (w h p q : ℕ) → GoodPlace net w h p q →
+    triangleBeyond net w (chosen 1024 w h p q) ≡ false →
     {down : Bool} {c : List (List (List ℤ))} {P Q T : ℕ} {ahead : Bool} {A B G : ℕ} →
     down ≡ chosen 1024 w h p q .down → c ≡ cornerControls net w (chosen 1024 w h p q) →
-    InOrder (orderOf (share 1024 w h p q)) (share 1024 w h p q) P Q T ahead A B G → Evaluable A B G (arranged P Q T (reorderedControls down c))
+    InOrder (orderOf (share 1024 w h p q)) (share 1024 w h p q) P Q T ahead A B G →
+    Evaluable A B G (arranged P Q T (reorderedControls down c))
 evaluable net w h p q g b {down} {c} {P} {Q} {T} ek ec i =
     let t = chosen 1024 w h p q in
     let s = share 1024 w h p q in
     let lies = in-net-place net w h p q (g .size) (g .place) (g .long) in
     let within : (x : ℕ) → x < 3 → Within 16777216 (valuesIn (arranged P Q T (reorderedControls down c)) x) =
     λ x k. subst (Within 16777216) (sym (prepared net w h p q ek ec i x))
-    (form-within 16777216 (t .down) (controlsOf (field net w x) t) (orderOf s) (value-size net w (t .column) (t .row) (t .down) lies b x k)) in
+    (form-within 16777216 (t .down) (controlsOf (field net w x) t) (orderOf s)
+    (value-size net w (t .column) (t .row) (t .down) lies b x k)) in
     record {
       gaps = omega (arith, i .first, i .second, i .last, gaps-sum s, shares-sum w h p q (g .size) (g .place));
       within-0 = within 0 (lit< tt);

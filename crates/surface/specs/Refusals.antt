@@ -20,9 +20,9 @@ pointRefusal net w h p q =
     ∷ (triangleBeyond net w (chosen 1024 w h p q), 3)
     ∷ [])
 
--- worked cases: every fault at once, and then without the one that was found, to none; document 01's example of 6 and the
--- accepted place p = 1,024 at w = 2; with f + g = 1024, a number of vertex (0, 0) beyond the range counts and one of
--- vertex (1, 1) does not, since the up triangle is chosen
+-- worked cases: every fault at once, and then without the one that was found, to none; document 01's example of 6 and
+-- the accepted place p = 1,024 at w = 2; with f + g = 1024, a number of vertex (0, 0) beyond the range counts and one
+-- of vertex (1, 1) does not, since the up triangle is chosen
 abbrev zeros : List ℤ
 zeros = replicate (numbers 2 2) (pos 0)
 

@@ -19,9 +19,12 @@ use Rattle.triangles.specs.Corners.{cornerControls, reorderedControls, a
 module _ {A : Type 0} where
   abbrev pub inForm : Bool → (Index → Index → A) → Order → List A
   inForm down c o =
-      c (cornerP o) (indexK down (cornerP o)) ∷ c (cornerP o) (indexN down (cornerP o)) ∷ c (cornerP o) (indexM down (cornerP o))
-      ∷ c (cornerQ o) (indexK down (cornerQ o)) ∷ c (cornerQ o) (indexN down (cornerQ o)) ∷ c (cornerQ o) (indexM down (cornerQ o))
-      ∷ c (cornerT o) (indexK down (cornerT o)) ∷ c (cornerT o) (indexN down (cornerT o)) ∷ c (cornerT o) (indexM down (cornerT o))
+      c (cornerP o) (indexK down (cornerP o)) ∷ c (cornerP o) (indexN down (cornerP o))
+      ∷ c (cornerP o) (indexM down (cornerP o))
+      ∷ c (cornerQ o) (indexK down (cornerQ o)) ∷ c (cornerQ o) (indexN down (cornerQ o))
+      ∷ c (cornerQ o) (indexM down (cornerQ o))
+      ∷ c (cornerT o) (indexK down (cornerT o)) ∷ c (cornerT o) (indexN down (cornerT o))
+      ∷ c (cornerT o) (indexM down (cornerT o))
       ∷ []
 
 -- what the reordered and arranged control triangles hold
@@ -43,7 +46,8 @@ form-values true o321 c x = refl
 
 -- and what they hold of a stored net
 pub loaded-form : (net : List ℤ) (w : ℕ) (t : Triangle) (down : Bool) (o : Order) (x : ℕ) →
-    inForm down (λ P k. entry (getD (cornerControls net w t) (rank P) []) k x) o ≡ inForm down (controlsOf (field net w x) t) o
+    inForm down (λ P k. entry (getD (cornerControls net w t) (rank P) []) k x) o
+    ≡ inForm down (controlsOf (field net w x) t) o
 loaded-form net w t down o x = λ i. inForm down (λ P k. at P k i) o
   where
     at : (P k : Index) → entry (getD (cornerControls net w t) (rank P) []) k x ≡ controlsOf (field net w x) t P k
@@ -52,7 +56,8 @@ loaded-form net w t down o x = λ i. inForm down (λ P k. at P k i) o
     at three k = refl
 
 -- they are in range where each control value is
-pub form-within : (n : ℕ) (down : Bool) (c : Controls) (o : Order) → ((P k : Index) → natAbs (c P k) ≤ n) → Within n (inForm down c o)
+pub form-within : (n : ℕ) (down : Bool) (c : Controls) (o : Order) → ((P k : Index) → natAbs (c P k) ≤ n) →
+    Within n (inForm down c o)
 form-within n down c o h =
     (h _ _, (h _ _, (h _ _, (h _ _, (h _ _, (h _ _, (h _ _, (h _ _, (h _ _, tt)))))))))
 

@@ -18,7 +18,8 @@ use Rattle.triangles.specs.Refusals.{triangleBeyond}
 use Rattle.triangles.specs.Corners.{InNet}
 
 -- both its triangles lie in the net
-pub in-net : (net : List ℤ) {w h i j : ℕ} → badSize w h ≡ false → shortNet net w h ≡ false → InGrid w h i j → InNet net w i j
+pub in-net : (net : List ℤ) {w h i j : ℕ} → badSize w h ≡ false → shortNet net w h ≡ false → InGrid w h i j →
+    InNet net w i j
 in-net net {w} {h} {i} {j} e₁ e₂ g =
     let s = good-size w h e₁ in
     let l = ltb-false (length net) (numbers w h) e₂ in
@@ -26,7 +27,8 @@ in-net net {w} {h} {i} {j} e₁ e₂ g =
     record { width = s .narrow; column = g .column; row = omega (arith, g .row, s .low); ends = omega (arith, ends, l) }
 
 -- no corner of its triangles is stored after (i + 1, j + 1)
-pub corner-before : (w i j : ℕ) → i + 1 < w → (down : Bool) (P : Index) → start w (corner (triangleAt i j down) P) ≤ start w (vertexAt (i + 1) (j + 1))
+pub corner-before : (w i j : ℕ) → i + 1 < w → (down : Bool) (P : Index) →
+    start w (corner (triangleAt i j down) P) ≤ start w (vertexAt (i + 1) (j + 1))
 corner-before w i j a false one = omega arith
 corner-before w i j a false two = omega arith
 corner-before w i j a false three = omega arith
@@ -48,13 +50,18 @@ three-none a b c e =
     let g = or-none b c (f .1) in
     (f .0, g .0, g .1)
 
-corners-fine : (net : List ℤ) (w : ℕ) (t : Triangle) → triangleBeyond net w t ≡ false → (P : Index) → cornerBeyond net w t P ≡ false
-corners-fine net w t e one = three-none (cornerBeyond net w t one) (cornerBeyond net w t two) (cornerBeyond net w t three) e .0
-corners-fine net w t e two = three-none (cornerBeyond net w t one) (cornerBeyond net w t two) (cornerBeyond net w t three) e .1
-corners-fine net w t e three = three-none (cornerBeyond net w t one) (cornerBeyond net w t two) (cornerBeyond net w t three) e .2
+corners-fine : (net : List ℤ) (w : ℕ) (t : Triangle) → triangleBeyond net w t ≡ false → (P : Index) →
+    cornerBeyond net w t P ≡ false
+corners-fine net w t e one =
+    three-none (cornerBeyond net w t one) (cornerBeyond net w t two) (cornerBeyond net w t three) e .0
+corners-fine net w t e two =
+    three-none (cornerBeyond net w t one) (cornerBeyond net w t two) (cornerBeyond net w t three) e .1
+corners-fine net w t e three =
+    three-none (cornerBeyond net w t one) (cornerBeyond net w t two) (cornerBeyond net w t three) e .2
 
 -- and so each of its nine control values
-pub value-size : (net : List ℤ) (w i j : ℕ) (down : Bool) → InNet net w i j → triangleBeyond net w (triangleAt i j down) ≡ false →
+pub value-size : (net : List ℤ) (w i j : ℕ) (down : Bool) → InNet net w i j →
+    triangleBeyond net w (triangleAt i j down) ≡ false →
     (x : ℕ) → x < 3 → (P k : Index) → natAbs (controlsOf (field net w x) (triangleAt i j down) P k) ≤ 16777216
 value-size net w i j down l e x h P k =
     let t = triangleAt i j down in
@@ -69,10 +76,14 @@ pub stays : (n : ℕ) → pos n ≡ pos n +ℤ pos 0
 stays n = identity (var 0) (var 0 ⊕ lit (pos 0)) (pos n ∷ []) refl
 
 pub steps-agree : (i j : ℕ) (down : Bool) (P : Index) →
-    (pos (corner (triangleAt i j down) (next P) .column) ≡ pos (corner (triangleAt i j down) P .column) +ℤ stepColumn (indexK down P))
-    × (pos (corner (triangleAt i j down) (next P) .row) ≡ pos (corner (triangleAt i j down) P .row) +ℤ stepRow (indexK down P))
-    × (pos (corner (triangleAt i j down) (previous P) .column) ≡ pos (corner (triangleAt i j down) P .column) -ℤ stepColumn (indexM down P))
-    × (pos (corner (triangleAt i j down) (previous P) .row) ≡ pos (corner (triangleAt i j down) P .row) -ℤ stepRow (indexM down P))
+    (pos (corner (triangleAt i j down) (next P) .column)
+    ≡ pos (corner (triangleAt i j down) P .column) +ℤ stepColumn (indexK down P))
+    × (pos (corner (triangleAt i j down) (next P) .row)
+    ≡ pos (corner (triangleAt i j down) P .row) +ℤ stepRow (indexK down P))
+    × (pos (corner (triangleAt i j down) (previous P) .column)
+    ≡ pos (corner (triangleAt i j down) P .column) -ℤ stepColumn (indexM down P))
+    × (pos (corner (triangleAt i j down) (previous P) .row)
+    ≡ pos (corner (triangleAt i j down) P .row) -ℤ stepRow (indexM down P))
 steps-agree i j false one = (refl, stays j, stays i, refl)
 steps-agree i j false two = (back i, refl, back i, stays j)
 steps-agree i j false three = (stays i, back j, refl, back j)

@@ -17,7 +17,8 @@ pub record InNet (net : List ℤ) (w i j : ℕ) : Type 0 where
 -- the control triangles of a triangle's corners
 abbrev pub cornerControls : List ℤ → ℕ → Triangle → List (List (List ℤ))
 cornerControls net w t =
-    controlTriangle net w (corner t one) ∷ controlTriangle net w (corner t two) ∷ controlTriangle net w (corner t three) ∷ []
+    controlTriangle net w (corner t one) ∷ controlTriangle net w (corner t two) ∷ controlTriangle net w (corner t three)
+    ∷ []
 
 -- the nine control values in coordinate x of three control triangles
 abbrev pub valuesIn : List (List (List ℤ)) → ℕ → List ℤ
@@ -30,7 +31,8 @@ reorderedCorner down P c =
 
 abbrev pub reorderedControls : Bool → List (List (List ℤ)) → List (List (List ℤ))
 reorderedControls down c =
-    reorderedCorner down one (getD c 0 []) ∷ reorderedCorner down two (getD c 1 []) ∷ reorderedCorner down three (getD c 2 []) ∷ []
+    reorderedCorner down one (getD c 0 []) ∷ reorderedCorner down two (getD c 1 [])
+    ∷ reorderedCorner down three (getD c 2 []) ∷ []
 
 -- the corners in another order
 abbrev pub arranged : ℕ → ℕ → ℕ → List (List (List ℤ)) → List (List (List ℤ))

@@ -15,8 +15,8 @@ triangleBeyond net w t =
     anyBeyond (vertexNumbers net w (corner t one))
     || (anyBeyond (vertexNumbers net w (corner t two)) || anyBeyond (vertexNumbers net w (corner t three)))
 
--- worked cases: of nets of 2 by 2 with one number beyond the range: the last, of vertex (1, 1); the first, of vertex (0,
--- 0); and one of vertex (1, 0) and of vertex (0, 1), which are corners of both triangles
+-- worked cases: of nets of 2 by 2 with one number beyond the range: the last, of vertex (1, 1); the first, of vertex
+-- (0, 0); and one of vertex (1, 0) and of vertex (0, 1), which are corners of both triangles
 abbrev zeros : List ℤ
 zeros = replicate (numbers 2 2) (pos 0)
 

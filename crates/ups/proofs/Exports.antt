@@ -39,17 +39,21 @@ pub bezier-export : (net : List ℤ) (w h i j down room : ℕ) → ltb 1 down �
 bezier-export net w h i j down room e =
     ap
     (λ (t : Bool). cond (badSize w h) 1
-    (cond t 6 (cond (shortNet net w h) 2 (cond (ltb room 57) 5 (cond (triangleBeyond net w (triangleAt i j (eqb down 1))) 3 0)))))
+    (cond t 6 (cond (shortNet net w h) 2
+    (cond (ltb room 57) 5 (cond (triangleBeyond net w (triangleAt i j (eqb down 1))) 3 0)))))
     (or-false (noTriangle w h i j) e)
 
 -- another number is no triangle
-pub no-kind : (net : List ℤ) (w h i j down room : ℕ) → badSize w h ≡ false → ltb 1 down ≡ true → 6 ≡ bezierExport net w h i j down room
-no-kind net w h i j down room e₁ e₆ = cond-false (badSize w h) _ _ e₁ (cond-true _ 6 _ (or-true (noTriangle w h i j) e₆))
+pub no-kind : (net : List ℤ) (w h i j down room : ℕ) → badSize w h ≡ false → ltb 1 down ≡ true →
+    6 ≡ bezierExport net w h i j down room
+no-kind net w h i j down room e₁ e₆ =
+    cond-false (badSize w h) _ _ e₁ (cond-true _ 6 _ (or-true (noTriangle w h i j) e₆))
 
 -- what the Bézier net's answer and output are to the export
 pub bezier-outcome : (net : List ℤ) (w h i j down : ℕ) (out : List ℤ) {n : ℕ} {l : List ℤ} → ltb 1 down ≡ false →
     n ≡ bezierRefusal net w h i j (eqb down 1) (length out) → l ≡ bezierOutput net w h i j (eqb down 1) out →
-    (n ≡ bezierExport net w h i j down (length out)) × (l ≡ outputAfter n (bezierNumbers net w (triangleAt i j (eqb down 1))) out)
+    (n ≡ bezierExport net w h i j down (length out))
+    × (l ≡ outputAfter n (bezierNumbers net w (triangleAt i j (eqb down 1))) out)
 unfolding bezierOutput
 bezier-outcome net w h i j down out e k q = (
   k ∙ bezier-export net w h i j down (length out) e,
@@ -58,7 +62,8 @@ bezier-outcome net w h i j down out e k q = (
 
 -- 5 put into its place among a point's refusals
 in-place : (t₁ t₆ t₂ t₅ t₃ : Bool) →
-    withRoom t₅ (cond t₁ 1 (cond t₆ 6 (cond t₂ 2 (cond t₃ 3 0)))) ≡ cond t₁ 1 (cond t₆ 6 (cond t₂ 2 (cond t₅ 5 (cond t₃ 3 0))))
+    withRoom t₅ (cond t₁ 1 (cond t₆ 6 (cond t₂ 2 (cond t₃ 3 0))))
+    ≡ cond t₁ 1 (cond t₆ 6 (cond t₂ 2 (cond t₅ 5 (cond t₃ 3 0))))
 in-place true t₆ t₂ true t₃ = refl
 in-place true t₆ t₂ false t₃ = refl
 in-place false true t₂ true t₃ = refl
@@ -69,9 +74,11 @@ in-place false false false true true = refl
 in-place false false false true false = refl
 in-place false false false false t₃ = refl
 
-pub point-export : (net : List ℤ) (w h p q room : ℕ) → withRoom (ltb room 3) (pointRefusal net w h p q) ≡ pointExport net w h p q room
+pub point-export : (net : List ℤ) (w h p q room : ℕ) →
+    withRoom (ltb room 3) (pointRefusal net w h p q) ≡ pointExport net w h p q room
 point-export net w h p q room =
-    in-place (badSize w h) (noPlace 1024 w h p q) (shortNet net w h) (ltb room 3) (triangleBeyond net w (chosen 1024 w h p q))
+    in-place (badSize w h) (noPlace 1024 w h p q) (shortNet net w h) (ltb room 3)
+    (triangleBeyond net w (chosen 1024 w h p q))
 
 -- a refusal stays one, whatever the room
 still-refused : (short : Bool) (n : ℕ) → (n ≡ 0 → ⊥) → withRoom short n ≡ 0 → ⊥
@@ -83,13 +90,15 @@ still-refused true n k e = at (eqb n 0 || eqb n 3) e
     at false q = k q
 
 -- an accepted point: what the export answers with and without room
-pub point-accepted : (net : List ℤ) (w h p q room : ℕ) (short : Bool) → ltb room 3 ≡ short → pointRefusal net w h p q ≡ 0 →
+pub point-accepted : (net : List ℤ) (w h p q room : ℕ) (short : Bool) → ltb room 3 ≡ short →
+    pointRefusal net w h p q ≡ 0 →
     withRoom short 0 ≡ pointExport net w h p q room
 point-accepted net w h p q room short e z = (λ t. withRoom (sym e t) (sym z t)) ∙ point-export net w h p q room
 
 module _ {A : Type 0} (net : List ℤ) (w h p q : ℕ) (out result : List A) where
   -- a refused point
-  pub point-refused : {n m : ℕ} → m ≡ pointRefusal net w h p q → (pointRefusal net w h p q ≡ 0 → ⊥) → n ≡ withRoom (ltb (length out) 3) m →
+  pub point-refused : {n m : ℕ} → m ≡ pointRefusal net w h p q → (pointRefusal net w h p q ≡ 0 → ⊥) →
+      n ≡ withRoom (ltb (length out) 3) m →
       (n ≡ pointExport net w h p q (length out)) × (out ≡ outputAfter n result out)
   point-refused {n} {m} e k r = (
     r ∙ ap (withRoom (ltb (length out) 3)) e ∙ point-export net w h p q (length out),
@@ -99,29 +108,47 @@ module _ {A : Type 0} (net : List ℤ) (w h p q : ℕ) (out result : List A) whe
 -- an answer with values that go into an output of their own: what the export answers, and what stands in its two
 -- outputs
 module _ {A : Type 0} (r : ℕ) (values counts : List ℕ) (result out : List A) where
-  pub exported : {l m : List ℕ} {o : List A} → _≡_ {A = ℕ × List ℕ} (0, l) (r, cond (accepted r) values []) → length values ≤ length counts →
+  pub exported : {l m : List ℕ} {o : List A} → _≡_ {A = ℕ × List ℕ} (0, l) (r, cond (accepted r) values []) →
+      length values ≤ length counts →
       m ≡ sets counts 0 l → o ≡ outputAfter r result out →
       (0 ≡ r) × ((o ≡ outputAfter 0 result out) × (m ≡ outputAfter 0 values counts))
   exported e room f g =
-      let outcome = answered r values e in
-      (sym (outcome .0), (g ∙ ap (λ (n : ℕ). outputAfter n result out) (outcome .0), f ∙ ap (sets counts 0) (outcome .1) ∙ sets-over values counts room))
+      let outcome = answered r values e in (
+        sym (outcome .0),
+        (
+          g ∙ ap (λ (n : ℕ). outputAfter n result out) (outcome .0),
+          f ∙ ap (sets counts 0) (outcome .1)
+              ∙ sets-over values counts room,
+        ),
+      )
 
-  pub not-exported : {n : ℕ} {o : List A} → 0 < length values → _≡_ {A = ℕ × List ℕ} (n, []) (r, cond (accepted r) values []) → o ≡ outputAfter r result out →
+  pub not-exported : {n : ℕ} {o : List A} → 0 < length values →
+      _≡_ {A = ℕ × List ℕ} (n, []) (r, cond (accepted r) values []) → o ≡ outputAfter r result out →
       (n ≡ r) × ((o ≡ outputAfter n result out) × (counts ≡ outputAfter n values counts))
   not-exported {n} some e g =
       let same : n ≡ r = λ t. e t .0 in
-      let there = not-accepted r values some e in
-      (same, (g ∙ ap (λ (k : ℕ). outputAfter k result out) (sym same), when-refused n (over values counts) counts (λ z. there (sym same ∙ z))))
+      let there = not-accepted r values some e in (
+        same,
+        (
+          g ∙ ap (λ (k : ℕ). outputAfter k result out) (sym same),
+          when-refused n (over values counts) counts
+              (λ z. there (sym same ∙ z)),
+        ),
+      )
 
 -- a number that is the call's, and what stands in the output and the scratch of refining by it
-pub left-exported : (r k w h : ℕ) (result out scratch out′ scratch′ : List ℤ) {n : ℕ} → n ≡ r → Left r k w h result out scratch out′ scratch′ →
+pub left-exported : (r k w h : ℕ) (result out scratch out′ scratch′ : List ℤ) {n : ℕ} → n ≡ r →
+    Left r k w h result out scratch out′ scratch′ →
     (n ≡ r) × Left n k w h result out scratch out′ scratch′
 left-exported r k w h result out scratch out′ scratch′ e l =
     (e, subst (λ (m : ℕ). Left m k w h result out scratch out′ scratch′) (sym e) l)
 
 -- demand 3 of the numbers that an accepted call left in the point's output
-pub claimed-exported : (net : List ℤ) (w h k p q : ℕ) {r : ℕ} {outcome : ℕ × List ℤ} (values out : List ℤ) {after : List ℤ} →
-    Claimed net w h k p q outcome → outcome ≡ (r, values) → length values ≡ 3 → after ≡ over values out → Claimed net w h k p q (r, take 3 after)
+pub claimed-exported : (net : List ℤ) (w h k p q : ℕ) {r : ℕ} {outcome : ℕ × List ℤ}
+    (values out : List ℤ) {after : List ℤ} →
+    Claimed net w h k p q outcome → outcome ≡ (r, values) → length values ≡ 3 → after ≡ over values out →
+    Claimed net w h k p q (r, take 3 after)
 claimed-exported net w h k p q {r} values out {after} claim e three left =
-    let front : values ≡ take 3 after = sym (take-over values out) ∙ (λ t. take (three t) (over values out)) ∙ sym (ap (take 3) left) in
+    let front : values ≡ take 3 after = sym (take-over values out) ∙ (λ t. take (three t) (over values out))
+    ∙ sym (ap (take 3) left) in
     subst (Claimed net w h k p q) (e ∙ (λ t. (r, front t))) claim

@@ -75,7 +75,8 @@ bytes-of-first bytes long small =
     let b = getD bytes 1 0 in
     let c = getD bytes 2 0 in
     let d = getD bytes 3 0 in
-    let first = ap (λ (n : ℕ). n % 256) (byte-a a b c d (small 0) (small 1) (small 2) (small 3)) ∙ mod-eq-of-lt (small 0) in
+    let first = ap (λ (n : ℕ). n % 256) (byte-a a b c d (small 0) (small 1) (small 2) (small 3))
+    ∙ mod-eq-of-lt (small 0) in
     let second = byte-b a b c d (small 0) (small 1) (small 2) (small 3) in
     let third = byte-c a b c d (small 0) (small 1) (small 2) (small 3) in
     let fourth = byte-d a b c d (small 0) (small 1) (small 2) (small 3) in
@@ -84,7 +85,8 @@ bytes-of-first bytes long small =
 -- a word is determined by its four bytes
 pub same-first : (l m : List ℕ) → ((i : ℕ) → i < 4 → getD l i 0 ≡ getD m i 0) → firstWord l ≡ firstWord m
 unfolding firstWord
-same-first l m byte = λ t. byte 0 (lit< tt) t * 16777216 + byte 1 (lit< tt) t * 65536 + byte 2 (lit< tt) t * 256 + byte 3 (lit< tt) t
+same-first l m byte =
+    λ t. byte 0 (lit< tt) t * 16777216 + byte 1 (lit< tt) t * 65536 + byte 2 (lit< tt) t * 256 + byte 3 (lit< tt) t
 
 -- ---- bytes the other way round
 
@@ -139,7 +141,8 @@ complement-small (negsuc n) h = omega arith
 pub signed-complement : (z : ℤ) → natAbs z ≤ 16777216 → signed (complement z) ≡ z
 signed-complement (pos n) h = sym (signed-low n (omega arith))
 signed-complement (negsuc n) h =
-    sym (signed-high (268435456 - suc n) (omega arith)) ∙ below-zero (268435456 - suc n) (omega arith) ∙ ap negsuc (omega arith)
+    sym (signed-high (268435456 - suc n) (omega arith)) ∙ below-zero (268435456 - suc n) (omega arith)
+    ∙ ap negsuc (omega arith)
 
 pub complement-signed : (p : ℕ) → p < 268435456 → complement (signed p) ≡ p
 complement-signed p h = go (decLt p 134217728)
@@ -155,11 +158,17 @@ signed-round p h = go (decLt p 134217728)
     go : Dec (p < 134217728) → pos ((p + 134217728) % 268435456) -ℤ pos 134217728 ≡ signed p
     go (yes l) =
         let m : (p + 134217728) % 268435456 ≡ p + 134217728 = mod-eq-of-lt (omega arith) in
-        ap (λ (k : ℕ). pos k -ℤ pos 134217728) m ∙ omega (integers, difference-parts (pos (p + 134217728)) (pos 134217728)) ∙ signed-low p l
+        ap (λ (k : ℕ). pos k -ℤ pos 134217728) m
+        ∙ omega (integers, difference-parts (pos (p + 134217728)) (pos 134217728)) ∙ signed-low p l
     go (no l) =
         let m : (p + 134217728) % 268435456 ≡ p - 134217728 = omega arith in
         ap (λ (k : ℕ). pos k -ℤ pos 134217728) m
-        ∙ omega (integers, difference-parts (pos (p - 134217728)) (pos 134217728), difference-parts (pos p) (pos 268435456))
+        ∙ omega (
+          integers,
+          difference-parts (pos (p - 134217728)) (pos 134217728),
+          difference-parts (pos p)
+              (pos 268435456),
+        )
         ∙ signed-high p (omega arith)
 
 -- and 2^28 is added before the remainder

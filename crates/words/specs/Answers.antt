@@ -17,5 +17,6 @@ abbrev pub answer : ℕ → List ℕ → ℕ × List ℕ
 answer refusal values = (refusal, cond (accepted refusal) values [])
 
 -- worked cases: outcomes of answers, accepted and refused
-outcomes : (wordOutcome (parsed.Payload 17) ≡ (0, 17 ∷ [])) × (wordOutcome (parsed.Refused 7) ≡ (7, [])) × (answer 9 (2 ∷ 3 ∷ []) ≡ (9, [])) × (answer 0 (2 ∷ 3 ∷ []) ≡ (0, 2 ∷ 3 ∷ []))
+outcomes : (wordOutcome (parsed.Payload 17) ≡ (0, 17 ∷ [])) × (wordOutcome (parsed.Refused 7) ≡ (7, []))
+    × (answer 9 (2 ∷ 3 ∷ []) ≡ (9, [])) × (answer 0 (2 ∷ 3 ∷ []) ≡ (0, 2 ∷ 3 ∷ []))
 outcomes = (refl, refl, refl, refl)

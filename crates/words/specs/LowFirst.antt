@@ -17,6 +17,7 @@ unfoldable pub lowBytes : ℕ → List ℕ
 lowBytes v = v % 256 ∷ v / 256 % 256 ∷ v / 65536 % 256 ∷ v / 16777216 ∷ []
 
 -- worked cases: 1, 2, 3, 4 hex, both ways
-swaps : (swappedBytes 16909060 ≡ 67305985) × (lowFirst (1 ∷ 2 ∷ 3 ∷ 4 ∷ []) ≡ 67305985) × (lowBytes 67305985 ≡ 1 ∷ 2 ∷ 3 ∷ 4 ∷ [])
+swaps : (swappedBytes 16909060 ≡ 67305985) × (lowFirst (1 ∷ 2 ∷ 3 ∷ 4 ∷ []) ≡ 67305985)
+    × (lowBytes 67305985 ≡ 1 ∷ 2 ∷ 3 ∷ 4 ∷ [])
 unfolding swappedBytes lowFirst lowBytes
 swaps = (refl, refl, refl)

@@ -80,7 +80,8 @@ numberBytes kind z = wordBytes (word kind (complement z))
 
 unfoldable pub pointBytes : List ℤ → ℕ → List ℕ
 pointBytes net at =
-    numberBytes xKind (number net at) ++ numberBytes yKind (number net (at + 1)) ++ numberBytes zKind (number net (at + 2))
+    numberBytes xKind (number net at) ++ numberBytes yKind (number net (at + 1))
+    ++ numberBytes zKind (number net (at + 2))
 
 -- 'Order: width, height, the 9wh numbers, end', whose payload is 0
 unfoldable pub netFile : List ℤ → ℕ → ℕ → List ℕ
@@ -125,7 +126,8 @@ AllBytes file = (i : ℕ) → getD file i 0 < 256
 -- worked cases: a height word of 17, both ways; -1 and the limits of 28 bits; the word of y = -2; sizes and where
 -- control point 5 begins; the file of 2 by 3 with the numbers -1 to -54
 
-seventeen : (wordBytes (word heightKind 17) ≡ 32 ∷ 0 ∷ 0 ∷ 17 ∷ []) × (firstWord (32 ∷ 0 ∷ 0 ∷ 17 ∷ 99 ∷ []) ≡ word heightKind 17)
+seventeen : (wordBytes (word heightKind 17) ≡ 32 ∷ 0 ∷ 0 ∷ 17 ∷ [])
+    × (firstWord (32 ∷ 0 ∷ 0 ∷ 17 ∷ 99 ∷ []) ≡ word heightKind 17)
 unfolding wordBytes firstWord
 seventeen = (refl, refl)
 

@@ -29,7 +29,8 @@ unfolding wordBytes pointBytes
 point-length net at = refl
 
 pub points-length : (net : List ℤ) (n : ℕ) → length (runs n (λ i. pointBytes net (pointStride * i))) ≡ n * pointSize
-points-length net n = length-runs n pointSize (λ i. pointBytes net (pointStride * i)) (λ i h. point-length net (pointStride * i))
+points-length net n =
+    length-runs n pointSize (λ i. pointBytes net (pointStride * i)) (λ i h. point-length net (pointStride * i))
 
 -- the lengths of the file's parts
 module _ (net : List ℤ) (w h : ℕ) where
@@ -52,7 +53,14 @@ module _ (net : List ℤ) (w h : ℕ) where
   before-end = omega (arith, length-append sides body, sides-length, points-length net (points w h))
 
   whole-length : length (sides ++ body ++ wordBytes (word endKind 0)) ≡ fileSize w h
-  whole-length = omega (arith, length-append (sides ++ body) (wordBytes (word endKind 0)), before-end, word-length (word endKind 0))
+  whole-length =
+      omega (
+        arith,
+        length-append (sides ++ body) (wordBytes (word endKind 0)),
+        before-end,
+        word-length
+            (word endKind 0),
+      )
 
   pub file-length : length (netFile net w h) ≡ fileSize w h
   unfolding netFile
@@ -69,17 +77,22 @@ module _ (net : List ℤ) (w h : ℕ) where
   file-stored out room =
       let e = wordBytes (word endKind 0) in
       ap (λ (l : List ℕ). sets (sets l headSize body) (headSize + pointSize * points w h) e)
-      (sets-after out 0 (wordBytes (word widthKind w)) (wordBytes (word heightKind h)) (omega (arith, word-length (word widthKind w))))
-      ∙ ap (λ (l : List ℕ). sets l (headSize + pointSize * points w h) e) (sets-after out 0 sides body (omega (arith, sides-length)))
+      (sets-after out 0 (wordBytes (word widthKind w)) (wordBytes (word heightKind h))
+      (omega (arith, word-length (word widthKind w))))
+      ∙ ap (λ (l : List ℕ). sets l (headSize + pointSize * points w h) e)
+      (sets-after out 0 sides body (omega (arith, sides-length)))
       ∙ sets-after out 0 (sides ++ body) e (omega (arith, before-end))
       ∙ sets-over (sides ++ body ++ e) out (omega (arith, whole-length, room))
 
 -- three words, one after the other
 pub words-stored : (out : List ℕ) (at u v w : ℕ) →
-    sets (sets (sets out at (wordBytes u)) (at + 4) (wordBytes v)) (at + 8) (wordBytes w) ≡ sets out at (wordBytes u ++ wordBytes v ++ wordBytes w)
+    sets (sets (sets out at (wordBytes u)) (at + 4) (wordBytes v)) (at + 8) (wordBytes w)
+    ≡ sets out at (wordBytes u ++ wordBytes v ++ wordBytes w)
 words-stored out at u v w =
-    ap (λ (l : List ℕ). sets l (at + 8) (wordBytes w)) (sets-after out at (wordBytes u) (wordBytes v) (omega (arith, word-length u)))
-    ∙ sets-after out at (wordBytes u ++ wordBytes v) (wordBytes w) (omega (arith, length-append (wordBytes u) (wordBytes v), word-length u, word-length v))
+    ap (λ (l : List ℕ). sets l (at + 8) (wordBytes w))
+    (sets-after out at (wordBytes u) (wordBytes v) (omega (arith, word-length u)))
+    ∙ sets-after out at (wordBytes u ++ wordBytes v) (wordBytes w)
+    (omega (arith, length-append (wordBytes u) (wordBytes v), word-length u, word-length v))
 
 -- ---- numbers beyond 9wh do not matter
 
@@ -94,14 +107,18 @@ cut-point net n at h =
 pub cut-file : (net : List ℤ) (w h : ℕ) → netFile (cut net w h) w h ≡ netFile net w h
 unfolding netFile
 cut-file net w h =
-    ap (λ (l : List ℕ). wordBytes (word widthKind w) ++ wordBytes (word heightKind h) ++ l ++ wordBytes (word endKind 0))
-    (runs-same (points w h) (λ i. pointBytes (cut net w h) (pointStride * i)) (λ i. pointBytes net (pointStride * i)) (λ i k. cut-point net (numbers w h) (pointStride * i) (omega (arith, k))))
+    ap (λ (l : List ℕ). wordBytes (word widthKind w) ++ wordBytes (word heightKind h) ++ l
+    ++ wordBytes (word endKind 0))
+    (runs-same (points w h) (λ i. pointBytes (cut net w h) (pointStride * i)) (λ i. pointBytes net (pointStride * i))
+    (λ i k. cut-point net (numbers w h) (pointStride * i) (omega (arith, k))))
 
-pub cut-write-refusal : (net : List ℤ) (w h : ℕ) (short : Bool) → writeRefusal net w h short ≡ writeRefusal (cut net w h) w h short
+pub cut-write-refusal : (net : List ℤ) (w h : ℕ) (short : Bool) →
+    writeRefusal net w h short ≡ writeRefusal (cut net w h) w h short
 cut-write-refusal net w h short =
     λ t. firstFault ((badSize w h, 1) ∷ (cut-short net w h t, 2) ∷ (short, 5) ∷ (cut-beyond net w h t, 3) ∷ [])
 
-pub cut-write-output : (net : List ℤ) (w h : ℕ) (short : Bool) (out : List ℕ) → writeOutputWith net w h short out ≡ writeOutputWith (cut net w h) w h short out
+pub cut-write-output : (net : List ℤ) (w h : ℕ) (short : Bool) (out : List ℕ) →
+    writeOutputWith net w h short out ≡ writeOutputWith (cut net w h) w h short out
 cut-write-output net w h short out = λ t. outputAfter (cut-write-refusal net w h short t) (sym (cut-file net w h) t) out
 
 -- ---- what is known of an accepted net
@@ -112,13 +129,16 @@ pub record GoodNet (net : List ℤ) (w h room : ℕ) : Type 0 where
   pub room-enough : fileSize w h ≤ room
   pub range : anyBeyond (cut net w h) ≡ false
 
-pub write-clear : (net : List ℤ) (w h : ℕ) (short : Bool) → writeRefusal net w h short ≡ 0 → Clear (writeFaults net w h short)
-write-clear net w h short none = none-clear (writeFaults net w h short) (lit< tt, (lit< tt, (lit< tt, (lit< tt, tt)))) none
+pub write-clear : (net : List ℤ) (w h : ℕ) (short : Bool) → writeRefusal net w h short ≡ 0 →
+    Clear (writeFaults net w h short)
+write-clear net w h short none =
+    none-clear (writeFaults net w h short) (lit< tt, (lit< tt, (lit< tt, (lit< tt, tt)))) none
 
 pub write-fits : (net : List ℤ) (w h : ℕ) (short : Bool) → writeRefusal net w h short ≡ 0 → short ≡ false
 write-fits net w h short none = write-clear net w h short none .1 .1 .0
 
-pub good-net : (net : List ℤ) (w h : ℕ) (other : Bool) (room : ℕ) → writeRefusal net w h (other || noRoom w h room) ≡ 0 → GoodNet net w h room
+pub good-net : (net : List ℤ) (w h : ℕ) (other : Bool) (room : ℕ) →
+    writeRefusal net w h (other || noRoom w h room) ≡ 0 → GoodNet net w h room
 good-net net w h other room e =
     let k = write-clear net w h (other || noRoom w h room) e in
     record {

@@ -41,7 +41,8 @@ outcomes = (refl, refl)
 abbrev net23 : List ℤ
 net23 = squares (numbers 2 3)
 
-answers : (writeAnswer net23 2 3 (replicate 229 7) ≡ (0, 228 ∷ [])) × (writeAnswer net23 2 3 (replicate 227 7) ≡ (5, []))
+answers : (writeAnswer net23 2 3 (replicate 229 7) ≡ (0, 228 ∷ []))
+    × (writeAnswer net23 2 3 (replicate 227 7) ≡ (5, []))
 unfolding netBeyond
 answers = (refl, refl)
 

@@ -25,8 +25,8 @@ noRoom w h room = ltb room (fileSize w h)
 abbrev level : List ℤ
 level = replicate (numbers 2 2) (pos 5)
 
--- worked cases: document 01's example of 5, and a byte more; every fault at once, and then without the one that was found,
--- to none
+-- worked cases: document 01's example of 5, and a byte more; every fault at once, and then without the one that was
+-- found, to none
 write-examples : (writeRefusal level 2 2 (noRoom 2 2 155) ≡ 5) × (writeRefusal level 2 2 (noRoom 2 2 156) ≡ 0)
 unfolding netBeyond
 write-examples = (refl, refl)

@@ -33,7 +33,8 @@ slice-aggregate-print-listing c = search needs
 print-listing-requires : tie.Need-print-listing-requires
 print-listing-requires c κs =
     let k = c .before .before .before .before .before .before in
-    subst (λ (r : ListAnswer). ReadyToList r (k .refine-input .last .1 .1 .1 .0)) (c .before .before .answer .given .1) (k .refine-input .ensures .ready)
+    subst (λ (r : ListAnswer). ReadyToList r (k .refine-input .last .1 .1 .1 .0)) (c .before .before .answer .given .1)
+    (k .refine-input .ensures .ready)
 
 enum-known-answer-2 : tie.Need-enum-known-answer-2
 enum-known-answer-2 c = search needs

@@ -19,7 +19,8 @@ array-share-prefix-line c = search needs
 slice-aggregate-write-all : tie.Need-slice-aggregate-write-all
 slice-aggregate-write-all c =
     let long : length (c .before .before .list-piece .last .1 .1 .1 .1 .0) ≡ 64 = search needs in
-    sym (length-take-le (c .before .before .list-piece .result) (c .before .before .list-piece .last .1 .1 .1 .1 .0) (omega (arith, c .before .before .list-piece .ensures .1 .1, long)))
+    sym (length-take-le (c .before .before .list-piece .result) (c .before .before .list-piece .last .1 .1 .1 .1 .0)
+    (omega (arith, c .before .before .list-piece .ensures .1 .1, long)))
 
 write-all-requires : tie.Need-write-all-requires
 write-all-requires c κs = search needs

@@ -40,7 +40,8 @@ returns-3 : tie.Need-returns-3
 returns-3 c =
     let a = c .before .before .before .before .before .before .args in
     let outcome = c .before .before .before .bezier-net .ensures in
-    bezier-outcome (a .net .now) (a .w) (a .h) (a .i) (a .j) (a .down) (a .out .now) (le-ltb _ _ (c .before .before .before .before .before .if1 .left))
+    bezier-outcome (a .net .now) (a .w) (a .h) (a .i) (a .j) (a .down) (a .out .now)
+    (le-ltb _ _ (c .before .before .before .before .before .if1 .left))
     (λ t. (sym (ap bezierOutcome (c .enum-told .given .1)) ∙ outcome .0) t .0) (outcome .1)
 
 same-length-2 : tie.Need-same-length-2
@@ -50,7 +51,8 @@ returns-4 : tie.Need-returns-4
 returns-4 c =
     let a = c .before .before .before .before .before .before .before .args in
     let outcome = c .before .before .before .before .bezier-net .ensures in
-    bezier-outcome (a .net .now) (a .w) (a .h) (a .i) (a .j) (a .down) (a .out .now) (le-ltb _ _ (c .before .before .before .before .before .before .if1 .left))
+    bezier-outcome (a .net .now) (a .w) (a .h) (a .i) (a .j) (a .down) (a .out .now)
+    (le-ltb _ _ (c .before .before .before .before .before .before .if1 .left))
     (λ t. (sym (ap bezierOutcome (c .before .answer .given .1)) ∙ outcome .0) t .0) (outcome .1)
 
 pub ups-bezier-net-spec : {M : Type 1} → statement M

@@ -49,7 +49,8 @@ module _ (c : tie.After-known-told) where
   abbrev at : tie.After-read-with
   at = c .before .before .before .before
 
-  outcome : _≡_ {A = ℕ × List ℕ} (0, c .before .answer .given .0 .0 ∷ c .before .answer .given .0 .1 .0 ∷ []) (refusal at, cond (accepted (refusal at)) (sides at) [])
+  outcome : _≡_ {A = ℕ × List ℕ} (0, c .before .answer .given .0 .0 ∷ c .before .answer .given .0 .1 .0 ∷ [])
+      (refusal at, cond (accepted (refusal at)) (sides at) [])
   outcome = sym (ap readOutcome (c .before .answer .given .1)) ∙ at .read-with .ensures .0
 
   sides-fit : 2 ≤ length (counts at)
@@ -79,7 +80,8 @@ same-length-2 c = search needs
 returns : tie.Need-returns
 returns c =
     let k = at c in
-    exported (refusal k) (sides k) (counts k) (fileNumbers (file k)) (net k) (outcome c) (sides-fit c) refl (k .read-with .ensures .1)
+    exported (refusal k) (sides k) (counts k) (fileNumbers (file k)) (net k) (outcome c) (sides-fit c) refl
+    (k .read-with .ensures .1)
 
 same-length-3 : tie.Need-same-length-3
 same-length-3 c = search needs

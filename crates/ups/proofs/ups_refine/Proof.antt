@@ -11,7 +11,8 @@ use Rattle.ups.proofs.ups_refine.Statement.{statement}
 use Rattle.ups.proofs.ups_refine.Tie as tie
 
 abbrev refusal : tie.Start → ℕ
-refusal s = refusalOf (s .args .net .now) (s .args .w) (s .args .h) (s .args .k) (s .args .out .now) (s .args .scratch .now)
+refusal s =
+    refusalOf (s .args .net .now) (s .args .w) (s .args .h) (s .args .k) (s .args .out .now) (s .args .scratch .now)
 
 abbrev result : tie.Start → List ℤ
 result s = refinedNet (s .args .net .now) (s .args .w) (s .args .h) (s .args .k)
@@ -36,7 +37,9 @@ returns c =
     let k = c .before .before .before .before in
     let s = k .before .before .before in
     let outcome = sym (ap refineOutcome (c .enum-told .given .1)) ∙ k .refine .ensures .0 in
-    left-exported (refusal s) (s .args .k) (s .args .w) (s .args .h) (result s) (s .args .out .now) (s .args .scratch .now) (k .refine .last .1 .1 .1 .1 .0) (k .refine .last .1 .1 .1 .1 .1 .0) (λ t. outcome t .0) (k .refine .ensures .1)
+    left-exported (refusal s) (s .args .k) (s .args .w) (s .args .h) (result s) (s .args .out .now)
+    (s .args .scratch .now) (k .refine .last .1 .1 .1 .1 .0) (k .refine .last .1 .1 .1 .1 .1 .0) (λ t. outcome t .0)
+    (k .refine .ensures .1)
 
 same-length-3 : tie.Need-same-length-3
 same-length-3 c = search needs
@@ -49,7 +52,9 @@ returns-2 c =
     let k = c .before .before .before .before .before in
     let s = k .before .before .before in
     let outcome = sym (ap refineOutcome (c .before .answer .given .1)) ∙ k .refine .ensures .0 in
-    left-exported (refusal s) (s .args .k) (s .args .w) (s .args .h) (result s) (s .args .out .now) (s .args .scratch .now) (k .refine .last .1 .1 .1 .1 .0) (k .refine .last .1 .1 .1 .1 .1 .0) (λ t. outcome t .0) (k .refine .ensures .1)
+    left-exported (refusal s) (s .args .k) (s .args .w) (s .args .h) (result s) (s .args .out .now)
+    (s .args .scratch .now) (k .refine .last .1 .1 .1 .1 .0) (k .refine .last .1 .1 .1 .1 .1 .0) (λ t. outcome t .0)
+    (k .refine .ensures .1)
 
 pub ups-refine-spec : {M : Type 1} → statement M
 ups-refine-spec =

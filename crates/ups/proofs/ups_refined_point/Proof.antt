@@ -26,7 +26,9 @@ abbrev short : tie.Start → Bool
 short s = ltb (length (s .args .point .now)) 3
 
 abbrev refusal : tie.Start → ℕ
-refusal s = refusalAt (s .args .net .now) (s .args .w) (s .args .h) (s .args .k) (s .args .p) (s .args .q) (short s) (s .args .out .now) (s .args .scratch .now)
+refusal s =
+    refusalAt (s .args .net .now) (s .args .w) (s .args .h) (s .args .k) (s .args .p) (s .args .q) (short s)
+    (s .args .out .now) (s .args .scratch .now)
 
 abbrev result : tie.Start → List ℤ
 result s = refinedNet (s .args .net .now) (s .args .w) (s .args .h) (s .args .k)
@@ -38,7 +40,8 @@ values s = refinedSurfacePoint (s .args .net .now) (s .args .w) (s .args .h) (s 
 room : (s : tie.Start) → refusal s ≡ 0 → 3 ≤ length (s .args .point .now)
 room s none =
     ltb-false (length (s .args .point .now)) 3
-    (point-accepted (s .args .net .now) (s .args .w) (s .args .h) (s .args .k) (s .args .p) (s .args .q) (short s) (length (s .args .out .now)) (length (s .args .scratch .now)) none .2)
+    (point-accepted (s .args .net .now) (s .args .w) (s .args .h) (s .args .k) (s .args .p) (s .args .q) (short s)
+    (length (s .args .out .now)) (length (s .args .scratch .now)) none .2)
 
 -- the outcome of an answer with a point
 module _ (c : tie.After-answer) where
@@ -48,10 +51,12 @@ module _ (c : tie.After-answer) where
   abbrev start : tie.Start
   start = call .before .before .before
 
-  outcome : _≡_ {A = ℕ × List ℤ} (pointOutcome (call .refined-point-with .result)) (refusal start, cond (accepted (refusal start)) (values start) [])
+  outcome : _≡_ {A = ℕ × List ℤ} (pointOutcome (call .refined-point-with .result))
+      (refusal start, cond (accepted (refusal start)) (values start) [])
   outcome = call .refined-point-with .ensures .answer
 
-  given : (let point = c .answer .given .0 .0 in (refusal start ≡ 0) × (point .x ∷ point .y ∷ point .z ∷ [] ≡ values start))
+  given : (let point = c .answer .given .0 .0 in (refusal start ≡ 0)
+      × (point .x ∷ point .y ∷ point .z ∷ [] ≡ values start))
   given = answered (refusal start) (values start) (sym (ap pointOutcome (c .answer .given .1)) ∙ outcome)
 
 refined-point-with-requires : tie.Need-refined-point-with-requires
@@ -84,16 +89,22 @@ returns c =
     let k = call a in
     let point = a .answer .given .0 .0 in
     let fits = c .before .before .before .struct-told .given in
-    let left = left-exported (refusal s) (s .args .k) (s .args .w) (s .args .h) (result s) (s .args .out .now) (s .args .scratch .now) (k .refined-point-with .last .1 .1 .1 .1 .1 .1 .1 .0) (k .refined-point-with .last .1 .1 .1 .1 .1 .1 .1 .1 .0) (sym (given a .0)) (k .refined-point-with .ensures .output, k .refined-point-with .ensures .scratchFree) in
+    let left =
+    left-exported (refusal s) (s .args .k) (s .args .w) (s .args .h) (result s) (s .args .out .now)
+    (s .args .scratch .now) (k .refined-point-with .last .1 .1 .1 .1 .1 .1 .1 .0)
+    (k .refined-point-with .last .1 .1 .1 .1 .1 .1 .1 .1 .0) (sym (given a .0))
+    (k .refined-point-with .ensures .output, k .refined-point-with .ensures .scratchFree) in
     let out = s .args .point .now in
     let stored =
     c .before .store-point .ensures
-    ∙ (λ t. set (set (set out 0 (reads-back w32 (point .x) (fits .0 .1) t)) 1 (reads-back w32 (point .y) (fits .1 .0 .1) t)) 2 (reads-back w32 (point .z) (fits .1 .1 .0 .1) t))
+    ∙ (λ t. set (set (set out 0 (reads-back w32 (point .x) (fits .0 .1) t)) 1
+    (reads-back w32 (point .y) (fits .1 .0 .1) t)) 2 (reads-back w32 (point .z) (fits .1 .1 .0 .1) t))
     ∙ sets-over (point .x ∷ point .y ∷ point .z ∷ []) out (room s (given a .0))
     ∙ ap (λ (l : List ℤ). over l out) (given a .1) in
     let claim =
     claimed-exported (s .args .net .now) (s .args .w) (s .args .h) (s .args .k) (s .args .p) (s .args .q) (values s) out
-    (k .refined-point-with .ensures .demandThree (given a .0)) (ap pointOutcome (a .answer .given .1) ∙ (λ t. (0, given a .1 t))) refl stored in (
+    (k .refined-point-with .ensures .demandThree (given a .0))
+    (ap pointOutcome (a .answer .given .1) ∙ (λ t. (0, given a .1 t))) refl stored in (
       left .0,
       (
         left .1 .0,
@@ -115,10 +126,16 @@ returns-2 c =
     let k = c .before .before .before .before .before in
     let s = k .before .before .before in
     let outcome = sym (ap pointOutcome (c .before .answer2 .given .1)) ∙ k .refined-point-with .ensures .answer in
-    let left = left-exported (refusal s) (s .args .k) (s .args .w) (s .args .h) (result s) (s .args .out .now) (s .args .scratch .now) (k .refined-point-with .last .1 .1 .1 .1 .1 .1 .1 .0) (k .refined-point-with .last .1 .1 .1 .1 .1 .1 .1 .1 .0) (λ t. outcome t .0) (k .refined-point-with .ensures .output, k .refined-point-with .ensures .scratchFree) in
+    let left =
+    left-exported (refusal s) (s .args .k) (s .args .w) (s .args .h) (result s) (s .args .out .now)
+    (s .args .scratch .now) (k .refined-point-with .last .1 .1 .1 .1 .1 .1 .1 .0)
+    (k .refined-point-with .last .1 .1 .1 .1 .1 .1 .1 .1 .0) (λ t. outcome t .0)
+    (k .refined-point-with .ensures .output, k .refined-point-with .ensures .scratchFree) in
     let there = not-accepted (refusal s) (values s) (lit< tt) outcome in
     let refused : c .before .answer2 .given .0 .0 ≡ 0 → ⊥ = λ z. there (sym (left .0) ∙ z) in
-    let kept = when-refused (c .before .answer2 .given .0 .0) (over (values s) (s .args .point .now)) (s .args .point .now) refused in
+    let kept =
+    when-refused (c .before .answer2 .given .0 .0) (over (values s) (s .args .point .now))
+    (s .args .point .now) refused in
     (left .0, (left .1 .0, (left .1 .1, (kept, λ none. absurd (refused none)))))
 
 pub ups-refined-point-spec : {M : Type 1} → statement M

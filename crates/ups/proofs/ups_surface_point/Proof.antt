@@ -29,8 +29,13 @@ unfolding pointAnswer
 returns c =
     let k = c .before .before in
     let a = k .before .before .before .args in
-    let outcome = answered _ (surfacePoint (a .net .now) (a .w) (a .h) (a .p) (a .q)) (sym (ap pointOutcome (k .answer .given .1)) ∙ k .before .before .surface-point .ensures) in
-    (point-accepted (a .net .now) (a .w) (a .h) (a .p) (a .q) (length (a .out .now)) true (lt-ltb _ _ (c .if1 .taken)) (outcome .0), refl)
+    let outcome =
+    answered _ (surfacePoint (a .net .now) (a .w) (a .h) (a .p) (a .q))
+    (sym (ap pointOutcome (k .answer .given .1)) ∙ k .before .before .surface-point .ensures) in (
+      point-accepted (a .net .now) (a .w) (a .h) (a .p) (a .q) (length (a .out .now)) true (lt-ltb _ _ (c .if1 .taken))
+          (outcome .0),
+      refl,
+    )
 
 store-point-requires : tie.Need-store-point-requires
 store-point-requires c κs = search needs
@@ -50,13 +55,17 @@ returns-2 c =
     let e = c .before .before .before .before in
     let k = e .before .before in
     let a = k .before .before .before .args in
-    let outcome = answered _ (surfacePoint (a .net .now) (a .w) (a .h) (a .p) (a .q)) (sym (ap pointOutcome (k .answer .given .1)) ∙ k .before .before .surface-point .ensures) in
+    let outcome =
+    answered _ (surfacePoint (a .net .now) (a .w) (a .h) (a .p) (a .q))
+    (sym (ap pointOutcome (k .answer .given .1)) ∙ k .before .before .surface-point .ensures) in
     let point = k .answer .given .0 .0 in
     let fits = c .before .before .before .struct-told .given in
     let out = a .out .now in (
-      point-accepted (a .net .now) (a .w) (a .h) (a .p) (a .q) (length out) false (le-ltb _ _ (e .if1 .left)) (outcome .0),
+      point-accepted (a .net .now) (a .w) (a .h) (a .p) (a .q) (length out) false (le-ltb _ _ (e .if1 .left))
+          (outcome .0),
       c .before .store-point .ensures
-          ∙ (λ t. set (set (set out 0 (reads-back w32 (point .x) (fits .0 .1) t)) 1 (reads-back w32 (point .y) (fits .1 .0 .1) t)) 2 (reads-back w32 (point .z) (fits .1 .1 .0 .1) t))
+          ∙ (λ t. set (set (set out 0 (reads-back w32 (point .x) (fits .0 .1) t)) 1
+          (reads-back w32 (point .y) (fits .1 .0 .1) t)) 2 (reads-back w32 (point .z) (fits .1 .1 .0 .1) t))
           ∙ sets-over (point .x ∷ point .y ∷ point .z ∷ []) out (e .if1 .left)
           ∙ ap (λ (l : List ℤ). over l out) (outcome .1),
     )
@@ -67,7 +76,8 @@ returns-3 c =
     let k = c .before .before in
     let a = k .before .before .before .args in
     let outcome = sym (ap pointOutcome (k .answer2 .given .1)) ∙ k .before .before .surface-point .ensures in
-    point-refused (a .net .now) (a .w) (a .h) (a .p) (a .q) (a .out .now) (surfacePoint (a .net .now) (a .w) (a .h) (a .p) (a .q))
+    point-refused (a .net .now) (a .w) (a .h) (a .p) (a .q) (a .out .now)
+    (surfacePoint (a .net .now) (a .w) (a .h) (a .p) (a .q))
     (λ t. outcome t .0)
     (not-accepted _ (surfacePoint (a .net .now) (a .w) (a .h) (a .p) (a .q)) (lit< tt) outcome)
     (c .with-room .ensures)

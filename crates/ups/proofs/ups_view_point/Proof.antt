@@ -25,8 +25,13 @@ unfolding viewAnswer
 returns c =
     let k = c .before .before in
     let a = k .before .before .before .before .args in
-    let outcome = answered _ (viewPoint (a .net .now) (a .w) (a .h) (a .p) (a .q)) (sym (ap viewOutcome (k .answer .given .1)) ∙ k .before .before .view-point .ensures) in
-    (point-accepted (a .net .now) (a .w) (a .h) (a .p) (a .q) (length (a .out .now)) true (lt-ltb _ _ (c .if1 .taken)) (outcome .0), refl)
+    let outcome =
+    answered _ (viewPoint (a .net .now) (a .w) (a .h) (a .p) (a .q))
+    (sym (ap viewOutcome (k .answer .given .1)) ∙ k .before .before .view-point .ensures) in (
+      point-accepted (a .net .now) (a .w) (a .h) (a .p) (a .q) (length (a .out .now)) true (lt-ltb _ _ (c .if1 .taken))
+          (outcome .0),
+      refl,
+    )
 
 store-view-requires : tie.Need-store-view-requires
 store-view-requires c κs = search needs
@@ -46,9 +51,12 @@ returns-2 c =
     let e = c .before .before .before .before in
     let k = e .before .before in
     let a = k .before .before .before .before .args in
-    let outcome = answered _ (viewPoint (a .net .now) (a .w) (a .h) (a .p) (a .q)) (sym (ap viewOutcome (k .answer .given .1)) ∙ k .before .before .view-point .ensures) in
+    let outcome =
+    answered _ (viewPoint (a .net .now) (a .w) (a .h) (a .p) (a .q))
+    (sym (ap viewOutcome (k .answer .given .1)) ∙ k .before .before .view-point .ensures) in
     let out = a .out .now in (
-      point-accepted (a .net .now) (a .w) (a .h) (a .p) (a .q) (length out) false (le-ltb _ _ (e .if1 .left)) (outcome .0),
+      point-accepted (a .net .now) (a .w) (a .h) (a .p) (a .q) (length out) false (le-ltb _ _ (e .if1 .left))
+          (outcome .0),
       c .before .before .store-view .ensures ∙ ap (λ (l : List Float). over l out) (outcome .1),
     )
 
@@ -58,7 +66,8 @@ returns-3 c =
     let k = c .before .before in
     let a = k .before .before .before .before .args in
     let outcome = sym (ap viewOutcome (k .answer2 .given .1)) ∙ k .before .before .view-point .ensures in
-    point-refused (a .net .now) (a .w) (a .h) (a .p) (a .q) (a .out .now) (viewPoint (a .net .now) (a .w) (a .h) (a .p) (a .q))
+    point-refused (a .net .now) (a .w) (a .h) (a .p) (a .q) (a .out .now)
+    (viewPoint (a .net .now) (a .w) (a .h) (a .p) (a .q))
     (λ t. outcome t .0)
     (not-accepted _ (viewPoint (a .net .now) (a .w) (a .h) (a .p) (a .q)) (lit< tt) outcome)
     (c .with-room .ensures)

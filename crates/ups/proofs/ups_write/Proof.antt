@@ -43,14 +43,17 @@ module _ (c : tie.After-write-with) where
 
   -- there is room for the count
   room : refusal ≡ 0 → 1 ≤ length counts
-  room none = ltb-false (length counts) 1 (or-none (ltb (length counts) 1) (noRoom w h (length out)) (write-fits net w h short none) .0)
+  room none =
+      ltb-false (length counts) 1
+      (or-none (ltb (length counts) 1) (noRoom w h (length out)) (write-fits net w h short none) .0)
 
 -- an accepted one
 module _ (c : tie.After-known-told) where
   abbrev at : tie.After-write-with
   at = c .before .before .before .before .before
 
-  outcome : _≡_ {A = ℕ × List ℕ} (0, c .before .answer .given .0 .0 ∷ []) (refusal at, cond (accepted (refusal at)) (fileSize (w at) (h at) ∷ []) [])
+  outcome : _≡_ {A = ℕ × List ℕ} (0, c .before .answer .given .0 .0 ∷ [])
+      (refusal at, cond (accepted (refusal at)) (fileSize (w at) (h at) ∷ []) [])
   outcome = sym (ap writeOutcome (c .before .answer .given .1)) ∙ at .write-with .ensures .0
 
   count-fits : 1 ≤ length (counts at)
@@ -77,7 +80,8 @@ same-length-2 c = search needs
 returns : tie.Need-returns
 returns c =
     let k = at c in
-    exported (refusal k) (fileSize (w k) (h k) ∷ []) (counts k) (netFile (net k) (w k) (h k)) (out k) (outcome c) (count-fits c) refl (k .write-with .ensures .1)
+    exported (refusal k) (fileSize (w k) (h k) ∷ []) (counts k) (netFile (net k) (w k) (h k)) (out k) (outcome c)
+    (count-fits c) refl (k .write-with .ensures .1)
 
 same-length-3 : tie.Need-same-length-3
 same-length-3 c = search needs

@@ -6,7 +6,9 @@ use Rattle.ups.proofs.with_room.Statement.{statement}
 use Rattle.ups.proofs.with_room.Tie as tie
 
 returns : tie.Need-returns
-returns c = cond-first _ _ _ (lt-ltb _ _ (c .before .if1 .taken)) (cond-true _ 5 _ (sym (or-yes _ _ (eq-eqb _ 0 (c .if2 .taken)))))
+returns c =
+    cond-first _ _ _ (lt-ltb _ _ (c .before .if1 .taken))
+    (cond-true _ 5 _ (sym (or-yes _ _ (eq-eqb _ 0 (c .if2 .taken)))))
 
 returns-2 : tie.Need-returns-2
 returns-2 c =

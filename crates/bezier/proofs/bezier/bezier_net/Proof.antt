@@ -57,13 +57,17 @@ module _ (c : tie.After-reorder-controls) where
   abbrev at : tie.Else1
   at = c .before .before
 
-  value : (x : ℕ) {values : List ℤ} → values ≡ valuesIn (c .reorder-controls .result) x → values ≡ formed (net at) (w at) (triangle at) x
-  value = reordered-values (net at) (w at) (triangle at) (c .before .load-triangle .ensures) (c .reorder-controls .ensures)
+  value : (x : ℕ) {values : List ℤ} → values ≡ valuesIn (c .reorder-controls .result) x →
+      values ≡ formed (net at) (w at) (triangle at) x
+  value =
+      reordered-values (net at) (w at) (triangle at) (c .before .load-triangle .ensures) (c .reorder-controls .ensures)
 
-  small : (x : ℕ) → x < 3 → {values : List ℤ} → values ≡ valuesIn (c .reorder-controls .result) x → Within 16777216 values
+  small : (x : ℕ) → x < 3 → {values : List ℤ} → values ≡ valuesIn (c .reorder-controls .result) x →
+      Within 16777216 values
   small x k e = subst (Within 16777216) (sym (value x e)) (within at x k)
 
-  points : (x : ℕ) {values numbers : List ℤ} → values ≡ valuesIn (c .reorder-controls .result) x → numbers ≡ pointsOf values →
+  points : (x : ℕ) {values numbers : List ℤ} → values ≡ valuesIn (c .reorder-controls .result) x →
+      numbers ≡ pointsOf values →
       numbers ≡ pointsOf (formed (net at) (w at) (triangle at) x)
   points x e f = f ∙ ap pointsOf (value x e)
 
@@ -95,7 +99,8 @@ coordinate-values-requires-3 : tie.Need-coordinate-values-requires-3
 coordinate-values-requires-3 c κs = search needs
 
 ordinates-requires-3 : tie.Need-ordinates-requires-3
-ordinates-requires-3 c κs = small (c .before .before .before .before .before) 2 (lit< tt) (c .coordinate-values3 .ensures)
+ordinates-requires-3 c κs =
+    small (c .before .before .before .before .before) 2 (lit< tt) (c .coordinate-values3 .ensures)
 
 write-points-requires : tie.Need-write-points-requires
 write-points-requires c κs = good (at (c .before .before .before .before .before .before .before)) .room-enough
@@ -108,8 +113,11 @@ returns-2 c =
     let o = c .before .before .before in
     let t = o .before .before .before .before .before .before in
     let e = at t in
-    let x = points t 0 (o .before .before .before .before .before .coordinate-values .ensures) (o .before .before .before .before .ordinates .ensures) in
-    let y = points t 1 (o .before .before .before .coordinate-values2 .ensures) (o .before .before .ordinates2 .ensures) in
+    let x =
+    points t 0 (o .before .before .before .before .before .coordinate-values .ensures)
+    (o .before .before .before .before .ordinates .ensures) in
+    let y =
+    points t 1 (o .before .before .before .coordinate-values2 .ensures) (o .before .before .ordinates2 .ensures) in
     let z = points t 2 (o .before .coordinate-values3 .ensures) (o .ordinates3 .ensures) in
     accepted-bezier (net e) (w e) (h e) (i e) (j e) (down e) (out e) (none e)
     (c .before .write-points .ensures

@@ -15,7 +15,8 @@ fine₁ : (c : tie.Else1) → badSize (c .before .before .args .w) (c .before .b
 fine₁ c = sym (c .before .bad-size .ensures) ∙ c .if1 .left
 
 fine₆ : (c : tie.Else2) →
-    noTriangle (c .before .before .before .before .args .w) (c .before .before .before .before .args .h) (c .before .before .before .before .args .i) (c .before .before .before .before .args .j) ≡ false
+    noTriangle (c .before .before .before .before .args .w) (c .before .before .before .before .args .h)
+    (c .before .before .before .before .args .i) (c .before .before .before .before .args .j) ≡ false
 fine₆ c = sym (c .before .no-triangle .ensures) ∙ c .if2 .left
 
 fine₂ : (c : tie.Else3) →
@@ -61,7 +62,8 @@ returns-5 c =
     cond-false _ _ _ (fine₁ (e .before .before))
     (cond-false _ _ _ (fine₆ e)
     (cond-false _ _ _ (fine₂ (f .before))
-    (cond-false _ _ _ (le-ltb _ _ (f .if4 .left)) (cond-true _ _ _ (sym (c .before .triangle-beyond .ensures) ∙ c .if5 .taken)))))
+    (cond-false _ _ _ (le-ltb _ _ (f .if4 .left))
+    (cond-true _ _ _ (sym (c .before .triangle-beyond .ensures) ∙ c .if5 .taken)))))
 
 returns-6 : tie.Need-returns-6
 returns-6 c =

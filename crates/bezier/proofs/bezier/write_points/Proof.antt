@@ -66,7 +66,10 @@ loop-again c =
     let old = a .out .now in
     let n = at .loop .n in
     let stored =
-    _∙_ {b = sets (at .loop .out) (3 * n) (toZ w32 (ofZ w32 (getD (a .t1) n (pos 0))) ∷ toZ w32 (ofZ w32 (getD (a .t2) n (pos 0))) ∷ toZ w32 (ofZ w32 (getD (a .t3) n (pos 0))) ∷ [])}
+    _∙_ {b =
+    sets (at .loop .out) (3 * n)
+    (toZ w32 (ofZ w32 (getD (a .t1) n (pos 0))) ∷ toZ w32 (ofZ w32 (getD (a .t2) n (pos 0)))
+    ∷ toZ w32 (ofZ w32 (getD (a .t3) n (pos 0))) ∷ [])}
     (c .before .store-point .ensures)
     (λ t.
     sets (at .loop .out) (3 * n)

@@ -56,7 +56,9 @@ module _ (t : ℕ) where
     more-digits = decimal-high n (c .if1 .left)
 
     room : c .before .before .args .at + length (decimal (n / 10) ++ (digit (n % 10) ∷ [])) ≤ length out
-    room = subst (λ (l : List ℕ). c .before .before .args .at + length l ≤ length out) more-digits (c .before .before .pre .1)
+    room =
+        subst (λ (l : List ℕ). c .before .before .args .at + length l ≤ length out) more-digits
+        (c .before .before .pre .1)
 
   digit-byte-requires : store-decimal-lts.Need-digit-byte-requires calls (store-decimal-at t) store-decimal.Post
   digit-byte-requires c κs = c .if1 .taken
@@ -84,7 +86,8 @@ module _ (t : ℕ) where
   returns : store-decimal-lts.Need-returns calls (store-decimal-at t) store-decimal.Post
   returns c =
       let k = c .before .before .before .before in
-      stored-as (c .before .before .store-byte .ensures) (ap (λ (b : ℕ). b ∷ []) (k .digit-byte .ensures) ∙ sym (one-digit (k .before)))
+      stored-as (c .before .before .store-byte .ensures)
+      (ap (λ (b : ℕ). b ∷ []) (k .digit-byte .ensures) ∙ sym (one-digit (k .before)))
 
   same-length-2 : store-decimal-lts.Need-same-length-2 calls (store-decimal-at t) store-decimal.Post
   same-length-2 c = search needs

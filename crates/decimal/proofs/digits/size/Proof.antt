@@ -44,7 +44,8 @@ module _ (c : tie.Start) where
 below : (c : tie.Then1) → pos 0 -ℤ wide (c .before) ≡ pos (natAbs (z (c .before)))
 below c =
     ap (λ (x : ℤ). pos 0 -ℤ x) (wide-is (c .before))
-    ∙ opposite (z (c .before)) (less-taken _ _ (ap (λ (x : ℤ). ltZ x (pos 0)) (sym (wide-is (c .before))) ∙ c .if1 .taken))
+    ∙ opposite (z (c .before))
+    (less-taken _ _ (ap (λ (x : ℤ). ltZ x (pos 0)) (sym (wide-is (c .before))) ∙ c .if1 .taken))
 
 above : (c : tie.Else1) → wide (c .before) ≡ pos (natAbs (z (c .before)))
 above c =

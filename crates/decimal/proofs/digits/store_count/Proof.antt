@@ -21,7 +21,9 @@ same-length : tie.Need-same-length
 same-length c = search needs
 
 returns : tie.Need-returns
-returns c = stored-then (c .before .before .before .before .before .before .store-decimal .ensures) (c .before .before .store-byte .ensures)
+returns c =
+    stored-then (c .before .before .before .before .before .before .store-decimal .ensures)
+    (c .before .before .store-byte .ensures)
 
 pub store-count-spec : {M : Type 1} → statement M
 store-count-spec =

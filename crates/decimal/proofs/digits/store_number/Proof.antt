@@ -44,7 +44,8 @@ same-length c = search needs
 returns : tie.Need-returns
 returns c =
     let stored = c .before .before .before .before .before .before in
-    stored-as (stored-then (stored .store-signed .ensures) (c .before .before .store-byte .ensures)) (text (stored .before .before .before))
+    stored-as (stored-then (stored .store-signed .ensures) (c .before .before .store-byte .ensures))
+    (text (stored .before .before .before))
 
 pub store-number-spec : {M : Type 1} → statement M
 store-number-spec =

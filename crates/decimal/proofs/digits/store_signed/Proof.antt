@@ -23,8 +23,11 @@ module _ (c : tie.After-size) where
   found = c .size .ensures ∙ ap natAbs (toZ-ofZ (c .before .before .fits .z))
 
   -- the room, said of the text by its parts
-  room : {text : List ℕ} → signedDecimal z ≡ text → c .before .before .args .at + length text ≤ length (c .before .before .args .out .now)
-  room e = subst (λ (l : List ℕ). c .before .before .args .at + length l ≤ length (c .before .before .args .out .now)) e (c .before .before .pre)
+  room : {text : List ℕ} → signedDecimal z ≡ text →
+      c .before .before .args .at + length text ≤ length (c .before .before .args .out .now)
+  room e =
+      subst (λ (l : List ℕ). c .before .before .args .at + length l ≤ length (c .before .before .args .out .now)) e
+      (c .before .before .pre)
 
 below : (c : tie.Then1) → signedDecimal (z (c .before)) ≡ (45 ∷ []) ++ decimal (c .before .size .result)
 below c =

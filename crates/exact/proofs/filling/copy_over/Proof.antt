@@ -21,7 +21,8 @@ abbrev single : List ℤ → ℕ → List ℤ
 single numbers i = getD numbers i (pos 0) ∷ []
 
 abbrev Inv-loop : tie.InvT-loop
-Inv-loop numbers out₀ i₀ out i = (i ≤ length numbers) × (length out ≡ length out₀) × (out ≡ over (runs i (single numbers)) out₀)
+Inv-loop numbers out₀ i₀ out i =
+    (i ≤ length numbers) × (length out ≡ length out₀) × (out ≡ over (runs i (single numbers)) out₀)
 
 abbrev μ-loop : tie.MeasureT-loop
 μ-loop numbers out₀ i₀ out i = length numbers - i
@@ -70,7 +71,8 @@ returns c =
     let all : c .before .loop .i ≡ length numbers = omega arith in
     c .before .loop .inv .2
     ∙ ap (λ (n : ℕ). over (runs n (single numbers)) old) all
-    ∙ ap (λ (l : List ℤ). over l old) (runs-of-list (pos 0) numbers (length numbers) (le-refl (length numbers)) ∙ take-length numbers)
+    ∙ ap (λ (l : List ℤ). over l old)
+    (runs-of-list (pos 0) numbers (length numbers) (le-refl (length numbers)) ∙ take-length numbers)
 
 pub copy-over-spec : {M : Type 1} → statement M
 copy-over-spec =

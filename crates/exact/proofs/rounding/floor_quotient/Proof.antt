@@ -65,7 +65,8 @@ record Above (a b : ℤ) : Type 0 where
 
 above : (a b : ℤ) → SFits w64 a → pos 0 ≤ℤ a → pos 0 <ℤ b → Above a b
 unfolding floorQuotient
-above (pos a) (pos b) f t p = record { quotient = record { sfits = lt-of-le-of-lt (div-le-self a b) (f .sfits) }; floor = refl }
+above (pos a) (pos b) f t p =
+    record { quotient = record { sfits = lt-of-le-of-lt (div-le-self a b) (f .sfits) }; floor = refl }
 above (pos a) (negsuc b) f t p = absurd (p .lt)
 above (negsuc a) b f t p = absurd (t .le)
 
@@ -73,12 +74,14 @@ above (negsuc a) b f t p = absurd (t .le)
 below-at : (c : tie.Then1) → Below (c .before .args .a) (c .before .args .b)
 below-at c =
     let negative = rw (toZ-ofZ (c .before .fits .a)) at (c .if1 .taken) in
-    below (c .before .args .a) (c .before .args .b) (c .before .fits .a) (less-taken (c .before .args .a) (pos 0) negative) (c .before .pre)
+    below (c .before .args .a) (c .before .args .b) (c .before .fits .a)
+    (less-taken (c .before .args .a) (pos 0) negative) (c .before .pre)
 
 above-at : (c : tie.Else1) → Above (c .before .args .a) (c .before .args .b)
 above-at c =
     let not-negative = rw (toZ-ofZ (c .before .fits .a)) at (c .if1 .left) in
-    above (c .before .args .a) (c .before .args .b) (c .before .fits .a) (less-left (c .before .args .a) (pos 0) not-negative) (c .before .pre)
+    above (c .before .args .a) (c .before .args .b) (c .before .fits .a)
+    (less-left (c .before .args .a) (pos 0) not-negative) (c .before .pre)
 
 sub-result : tie.Need-sub-result
 sub-result c = rw (toZ-ofZ (c .before .fits .a)) (below-at c .mirrored)
@@ -93,19 +96,31 @@ div-result c =
 sub-result-2 : tie.Need-sub-result-2
 sub-result-2 c =
     let s = below-at c in
-    rw (toZ-ofZ (c .before .fits .a), toZ-ofZ (c .before .fits .b), toZ-ofZ (s .mirrored), toZ-ofZ (s .quotient)) (s .back)
+    rw (toZ-ofZ (c .before .fits .a), toZ-ofZ (c .before .fits .b), toZ-ofZ (s .mirrored), toZ-ofZ (s .quotient))
+    (s .back)
 
 div-result-2 : tie.Need-div-result-2
-div-result-2 c =
-    (divisor (c .before .args .b) (c .before .pre), rw (toZ-ofZ (c .before .fits .a), toZ-ofZ (c .before .fits .b)) (above-at c .quotient))
+div-result-2 c = (
+  divisor (c .before .args .b) (c .before .pre),
+  rw (toZ-ofZ (c .before .fits .a), toZ-ofZ (c .before .fits .b))
+      (above-at c .quotient),
+)
 
 returns : tie.Need-returns
 returns c =
     let s = below-at c in
-    rw (toZ-ofZ (c .before .fits .a), toZ-ofZ (c .before .fits .b), toZ-ofZ (s .mirrored), toZ-ofZ (s .quotient), toZ-ofZ (s .back)) (s .floor)
+    rw (
+      toZ-ofZ (c .before .fits .a),
+      toZ-ofZ (c .before .fits .b),
+      toZ-ofZ (s .mirrored),
+      toZ-ofZ
+          (s .quotient),
+      toZ-ofZ (s .back),
+    ) (s .floor)
 
 returns-2 : tie.Need-returns-2
-returns-2 c = rw (toZ-ofZ (c .before .fits .a), toZ-ofZ (c .before .fits .b), toZ-ofZ (above-at c .quotient)) (above-at c .floor)
+returns-2 c =
+    rw (toZ-ofZ (c .before .fits .a), toZ-ofZ (c .before .fits .b), toZ-ofZ (above-at c .quotient)) (above-at c .floor)
 
 pub floor-quotient-spec : {M : Type 1} → statement M
 floor-quotient-spec =

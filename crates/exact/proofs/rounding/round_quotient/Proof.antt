@@ -53,7 +53,8 @@ returns c =
     toZ-ofZ (sfits-of (c .floor-quotient .ok))
     ∙ c .floor-quotient .ensures
     ∙ ap (λ (z : ℤ). floorQuotient z (natAbs (toZ w64 (held L denominator)))) (reads-exact L numerator tt)
-    ∙ ap (λ (z : ℤ). floorQuotient (pos 2 *ℤ c .before .args .n +ℤ pos (c .before .args .d)) (natAbs z)) (reads-exact L denominator tt)
+    ∙ ap (λ (z : ℤ). floorQuotient (pos 2 *ℤ c .before .args .n +ℤ pos (c .before .args .d)) (natAbs z))
+    (reads-exact L denominator tt)
 
 pub round-quotient-spec : {M : Type 1} → statement M
 round-quotient-spec =

@@ -117,20 +117,25 @@ returns-2 c =
     let w = refinedSide (fileWidth (file s)) in
     let h = refinedSide (fileHeight (file s)) in
     let room = length (refined s) in
-    let none : refusal s ≡ 0 = sym (a .before .before .before .step-refusal .ensures ∙ first s) ∙ a .before .before .if1 .left in
+    let none : refusal s ≡ 0 = sym (a .before .before .before .step-refusal .ensures ∙ first s)
+    ∙ a .before .before .if1 .left in
     let read = a .read .ensures .1 in
     let left =
     refining .refine .ensures .1 .0
-    ∙ (λ t. outputAfter (refineRefusal (read t) (wide s t) (high s t) 1 (tooShort (wide s t) (high s t) 1 room 0)) (refinedNet (read t) (wide s t) (high s t) 1) (refined s))
-    ∙ (λ t. outputAfter (refusal-after (file s) (net s) room (known s .0) t) (refined-after (file s) (net s) room (known s .0) t) (refined s)) in
+    ∙ (λ t. outputAfter (refineRefusal (read t) (wide s t) (high s t) 1 (tooShort (wide s t) (high s t) 1 room 0))
+    (refinedNet (read t) (wide s t) (high s t) 1) (refined s))
+    ∙ (λ t. outputAfter (refusal-after (file s) (net s) room (known s .0) t)
+    (refined-after (file s) (net s) room (known s .0) t) (refined s)) in
     record {
       answered = accepted-answer (refusal s) (sides s) none (λ t. refinedSide (wide s t) ∷ refinedSide (high s t) ∷ []);
-      netRead = read ∙ sym (when-accepted (early s) (over (fileNumbers (file s)) (net s)) (net s) (known s .0)) ∙ when-accepted (refusal s) (over (fileNumbers (file s)) (net s)) (net s) none;
+      netRead = read ∙ sym (when-accepted (early s) (over (fileNumbers (file s)) (net s)) (net s) (known s .0))
+          ∙ when-accepted (refusal s) (over (fileNumbers (file s)) (net s)) (net s) none;
       netRefined = left;
       ready =
           subst (λ (l : List ℤ). AcceptedNet l (refinedSide (s .args .w)) (refinedSide (s .args .h)))
           (when-accepted (refusal s) (over (refinedFile (file s)) (refined s)) (refined s) none ∙ sym left)
-          (subst (λ (l : List ℕ). AcceptedNet (over (refinedFile (file s)) (refined s)) (refinedSide (getD l 0 0)) (refinedSide (getD l 1 0))) (sym (known s .1))
+          (subst (λ (l : List ℕ). AcceptedNet (over (refinedFile (file s)) (refined s)) (refinedSide (getD l 0 0))
+          (refinedSide (getD l 1 0))) (sym (known s .1))
           (accepted-after (file s) (net s) room (known s .0) (refined s) refl none));
     }
 

@@ -23,7 +23,8 @@ enum-known-found c = search needs
 
 refine-checked-requires : tie.Need-refine-checked-requires
 refine-checked-requires c κs =
-    sym (sym (ap readOutcome (c .before .before .before .found .given .1)) ∙ c .before .before .before .before .before .check-file .ensures)
+    sym (sym (ap readOutcome (c .before .before .before .found .given .1))
+    ∙ c .before .before .before .before .before .check-file .ensures)
 
 enum-known-found-2 : tie.Need-enum-known-found-2
 enum-known-found-2 c = search needs
@@ -51,7 +52,9 @@ returns-2 c =
     let first = refused-reading file net (length refined) same (λ z. there (sym same ∙ z)) in
     let refused : refusal ≡ 0 → ⊥ = λ z. there (sym same ∙ first ∙ z) in
     record {
-      answered = refused-answer refusal (refinedSide (fileWidth file) ∷ refinedSide (fileHeight file) ∷ []) first (λ z. there (sym same ∙ z));
+      answered =
+          refused-answer refusal (refinedSide (fileWidth file) ∷ refinedSide (fileHeight file) ∷ []) first
+          (λ z. there (sym same ∙ z));
       netRead = when-refused refusal (over (fileNumbers file) net) net refused;
       netRefined = when-refused refusal (over (refinedFile file) refined) refined refused;
       ready = tt;

@@ -34,7 +34,9 @@ vertices c =
 
 -- 1 and 4 do not refuse
 clear : (c : tie.Else1) → Clear (faults (c .before .before))
-clear c = none-clear (faults (c .before .before)) (lit< tt, (lit< tt, tt)) (sym (c .before .size-refusal .ensures) ∙ c .if1 .left)
+clear c =
+    none-clear (faults (c .before .before)) (lit< tt, (lit< tt, tt))
+    (sym (c .before .size-refusal .ensures) ∙ c .if1 .left)
 
 size-refusal-requires : tie.Need-size-refusal-requires
 size-refusal-requires c κs = search needs
@@ -42,7 +44,8 @@ size-refusal-requires c κs = search needs
 returns : tie.Need-returns
 returns c =
     let s = c .before .before in
-    c .before .size-refusal .ensures ∙ fault-before (faults s) (rest s) (λ e. c .if1 .taken (c .before .size-refusal .ensures ∙ e))
+    c .before .size-refusal .ensures
+    ∙ fault-before (faults s) (rest s) (λ e. c .if1 .taken (c .before .size-refusal .ensures ∙ e))
 
 mul-if2 : tie.Need-mul-if2
 mul-if2 c = omega (arith, size (c .before .before) .narrow)

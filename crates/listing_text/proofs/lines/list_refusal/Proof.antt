@@ -45,8 +45,10 @@ returns c =
     let word = c .before .before .before .before .before .before in
     let start = word .before .before .before .before in
     let line = refusalLine (start .args .n) in
-    let stored : Stored (start .args .out .now) 0 line (c .before .before .store-count .last .1 .1 .1 .0) (c .before .before .store-count .result) =
-    stored-as (stored-then (word .store-text .ensures) (c .before .before .store-count .ensures)) (refusal-parts (start .args .n)) in
+    let stored : Stored (start .args .out .now) 0 line (c .before .before .store-count .last .1 .1 .1 .0)
+    (c .before .before .store-count .result) =
+    stored-as (stored-then (word .store-text .ensures) (c .before .before .store-count .ensures))
+    (refusal-parts (start .args .n)) in
     stored-line stored (short start) (start .pre)
 
 pub list-refusal-spec : {M : Type 1} → statement M

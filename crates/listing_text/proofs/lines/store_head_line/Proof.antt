@@ -37,7 +37,8 @@ module _ (c : tie.After-store-count) where
   abbrev word : tie.After-store-text
   word = c .before .before .before .before
 
-  stored-width : Stored (start word .args .out .now) 0 (word-text ++ width (start word)) (c .store-count .last .1 .1 .1 .0) (c .store-count .result)
+  stored-width : Stored (start word .args .out .now) 0 (word-text ++ width (start word))
+      (c .store-count .last .1 .1 .1 .0) (c .store-count .result)
   stored-width = stored-then (word .store-text .ensures) (c .store-count .ensures)
 
 slice-aggregate-store-text : tie.Need-slice-aggregate-store-text
@@ -65,7 +66,8 @@ returns : tie.Need-returns
 returns c =
     let k = c .before .before .before .before .before .before in
     let s = start (word k) in
-    stored-as (stored-then (stored-width k) (c .before .before .store-count2 .ensures)) (head-parts (s .args .w) (s .args .h))
+    stored-as (stored-then (stored-width k) (c .before .before .store-count2 .ensures))
+    (head-parts (s .args .w) (s .args .h))
 
 pub store-head-line-spec : {M : Type 1} → statement M
 store-head-line-spec =

@@ -53,7 +53,8 @@ module _ (c : tie.Start) where
   line : five ≡ pointLine (c .args .i) (c .args .j) (c .args .x) (c .args .y) (c .args .z)
   line =
       point-parts (c .args .i) (c .args .j) x y z
-      ∙ (λ t. pointLine (c .args .i) (c .args .j) (toZ-ofZ (c .fits .x) t) (toZ-ofZ (c .fits .y) t) (toZ-ofZ (c .fits .z) t))
+      ∙ (λ t. pointLine (c .args .i) (c .args .j) (toZ-ofZ (c .fits .x) t) (toZ-ofZ (c .fits .y) t)
+      (toZ-ofZ (c .fits .z) t))
 
   room-five : 0 + length five ≤ length out
   room-five = omega (arith, ap length line, c .pre)
@@ -82,14 +83,16 @@ module _ (c : tie.After-store-number) where
   abbrev second : tie.After-store-count2
   second = c .before .before .before .before
 
-  stored-three : Stored (out (start second)) 0 (three (start second)) (c .store-number .last .1 .1 .1 .0) (c .store-number .result)
+  stored-three : Stored (out (start second)) 0 (three (start second)) (c .store-number .last .1 .1 .1 .0)
+      (c .store-number .result)
   stored-three = stored-then (stored-two second) (c .store-number .ensures)
 
 module _ (c : tie.After-store-number2) where
   abbrev third : tie.After-store-number
   third = c .before .before .before .before
 
-  stored-four : Stored (out (start (second third))) 0 (four (start (second third))) (c .store-number2 .last .1 .1 .1 .0) (c .store-number2 .result)
+  stored-four : Stored (out (start (second third))) 0 (four (start (second third))) (c .store-number2 .last .1 .1 .1 .0)
+      (c .store-number2 .result)
   stored-four = stored-then (stored-three third) (c .store-number2 .ensures)
 
 store-count-requires : tie.Need-store-count-requires
@@ -126,7 +129,8 @@ same-length c = search needs
 returns : tie.Need-returns
 returns c =
     let k = c .before .before .before .before .before .before in
-    stored-as (stored-then (stored-four k) (c .before .before .store-number3 .ensures)) (line (start (second (third k))))
+    stored-as (stored-then (stored-four k) (c .before .before .store-number3 .ensures))
+    (line (start (second (third k))))
 
 pub store-point-line-spec : {M : Type 1} → statement M
 store-point-line-spec =

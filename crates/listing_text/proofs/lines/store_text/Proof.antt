@@ -37,11 +37,13 @@ loop-again : tie.Need-loop-again Inv-loop μ-loop
 loop-again c =
     let text = c .before .before .before .args .text .now in
     let i = c .before .before .loop .i in
-    let byte : Stored (c .before .before .loop .out) i (getD text i 0 ∷ []) (set (c .before .before .loop .out) i (getD text i 0)) (i + 1) =
+    let byte : Stored (c .before .before .loop .out) i (getD text i 0 ∷ [])
+    (set (c .before .before .loop .out) i (getD text i 0)) (i + 1) =
     record { contents = refl; place = refl } in (
       search needs,
       search needs,
-      stored-as (stored-then (c .before .before .loop .inv .2) byte) (sym (ap (λ (n : ℕ). take n text) (add-one i) ∙ take-suc text i 0 (omega arith))),
+      stored-as (stored-then (c .before .before .loop .inv .2) byte)
+          (sym (ap (λ (n : ℕ). take n text) (add-one i) ∙ take-suc text i 0 (omega arith))),
     )
 
 same-length : tie.Need-same-length Inv-loop μ-loop

@@ -137,7 +137,8 @@ returns c =
     let t = c .before .before .before .before in
     let start = t .before .before in
     let piece = first-piece (start .args .net .now) (start .args .w) (start .args .h) (t .if1 .taken) in
-    stored-line (stored-as (c .before .before .store-head-line .ensures) piece) (omega (arith, sym (ap length piece), short-head start)) (start .pre .2)
+    stored-line (stored-as (c .before .before .store-head-line .ensures) piece)
+    (omega (arith, sym (ap length piece), short-head start)) (start .pre .2)
 
 sub-i : tie.Need-sub-i
 sub-i c = search needs
@@ -175,7 +176,9 @@ same-length-2 c = search needs
 returns-2 : tie.Need-returns-2
 returns-2 c =
     let k = c .before .before .before in
-    stored-line (stored-as {xs = line k} (c .before .before .store-point-line .ensures) (line-is k)) (omega (arith, sym (ap length (line-is k)), short k)) (start (e k) .pre .2)
+    stored-line (stored-as {xs =
+    line k} (c .before .before .store-point-line .ensures) (line-is k))
+    (omega (arith, sym (ap length (line-is k)), short k)) (start (e k) .pre .2)
 
 -- no point is refused
 returns-3 : tie.Need-returns-3

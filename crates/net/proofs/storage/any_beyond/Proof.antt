@@ -50,7 +50,8 @@ returns c =
     let at = c .before .before in
     let numbers = at .before .before .before .args .numbers .now in
     let i = at .before .before .loop .i in
-    or-yes (beyond (getD numbers i (pos 0))) (anyBeyond (drop (i + 1) numbers)) (sym (read at (c .before .number-beyond .ensures)) ∙ c .if1 .taken)
+    or-yes (beyond (getD numbers i (pos 0))) (anyBeyond (drop (i + 1) numbers))
+    (sym (read at (c .before .number-beyond .ensures)) ∙ c .if1 .taken)
     ∙ sym (any-from numbers i (at .before .loop-test .taken))
     ∙ at .before .before .loop .inv .1
 
@@ -66,7 +67,8 @@ loop-again c =
     let numbers = at .before .before .before .args .numbers .now in
     let i = at .before .before .loop .i in (
       search needs,
-      or-no (beyond (getD numbers i (pos 0))) (anyBeyond (drop (i + 1) numbers)) (sym (read at (c .before .number-beyond .ensures)) ∙ c .if1 .left) refl
+      or-no (beyond (getD numbers i (pos 0))) (anyBeyond (drop (i + 1) numbers))
+          (sym (read at (c .before .number-beyond .ensures)) ∙ c .if1 .left) refl
           ∙ sym (any-from numbers i (at .before .loop-test .taken))
           ∙ at .before .before .loop .inv .1,
     )

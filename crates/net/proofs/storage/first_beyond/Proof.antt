@@ -33,7 +33,8 @@ module _ (c : tie.After-any-beyond Inv-loop μ-loop) where
       let one : stride * i + stride - stride * i ≡ stride = omega arith in
       c .any-beyond .ensures
       ∙ ap (λ (n : ℕ). anyBeyond (take n (drop (stride * i) net))) one
-      ∙ or-no (anyBeyond (take (stride * i) net)) (anyBeyond (take stride (drop (stride * i) net))) (c .before .before .before .loop .inv .1) refl
+      ∙ or-no (anyBeyond (take (stride * i) net)) (anyBeyond (take stride (drop (stride * i) net)))
+      (c .before .before .before .loop .inv .1) refl
       ∙ sym (any-front net (stride * i) stride)
 
 loop-holds : tie.Need-loop-holds Inv-loop μ-loop
@@ -81,7 +82,8 @@ loop-again c =
 returns-2 : tie.Need-returns-2 Inv-loop μ-loop
 returns-2 c =
     let all : c .before .loop .i ≡ c .before .before .args .n = omega arith in
-    sym (c .before .loop .inv .1) ∙ ap (λ (n : ℕ). anyBeyond (take (stride * n) (c .before .before .args .net .now))) all
+    sym (c .before .loop .inv .1)
+    ∙ ap (λ (n : ℕ). anyBeyond (take (stride * n) (c .before .before .args .net .now))) all
 
 pub first-beyond-spec : {M : Type 1} → statement M
 first-beyond-spec =

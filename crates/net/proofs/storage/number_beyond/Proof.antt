@@ -11,13 +11,15 @@ use Rattle.net.proofs.storage.number_beyond.Tie as tie
 returns : tie.Need-returns
 returns c =
     let read = toZ-ofZ (c .before .fits .z) in
-    beyond-below (c .before .args .z) (less-taken (c .before .args .z) _ (ap (λ (x : ℤ). ltZ x (negsuc 16777215)) (sym read) ∙ c .if1 .taken))
+    beyond-below (c .before .args .z)
+    (less-taken (c .before .args .z) _ (ap (λ (x : ℤ). ltZ x (negsuc 16777215)) (sym read) ∙ c .if1 .taken))
 
 returns-2 : tie.Need-returns-2
 returns-2 c =
     let read = toZ-ofZ (c .before .fits .z) in
     ap (ltZ (pos 16777216)) read
-    ∙ beyond-above (c .before .args .z) (less-left (c .before .args .z) _ (ap (λ (x : ℤ). ltZ x (negsuc 16777215)) (sym read) ∙ c .if1 .left))
+    ∙ beyond-above (c .before .args .z)
+    (less-left (c .before .args .z) _ (ap (λ (x : ℤ). ltZ x (negsuc 16777215)) (sym read) ∙ c .if1 .left))
 
 pub number-beyond-spec : {M : Type 1} → statement M
 number-beyond-spec = tie.close (tie.spec returns returns-2)

@@ -31,10 +31,16 @@ module _ (c : tie.After-write-with) where
   back = c .before .before .before .before .args .back .now
 
   outcome : writeOutcome (c .write-with .result) ≡ writeAnswerWith net w h (short net w h out back)
-  outcome = c .write-with .ensures .0 ∙ ap (λ (s : Bool). writeAnswerWith net w h (s || noRoom w h (length out))) (c .before .before .too-short-for .ensures)
+  outcome =
+      c .write-with .ensures .0
+      ∙ ap (λ (s : Bool). writeAnswerWith net w h (s || noRoom w h (length out)))
+      (c .before .before .too-short-for .ensures)
 
   left : c .write-with .last .1 .1 .1 .1 .0 ≡ writeOutputWith net w h (short net w h out back) out
-  left = c .write-with .ensures .1 ∙ ap (λ (s : Bool). writeOutputWith net w h (s || noRoom w h (length out)) out) (c .before .before .too-short-for .ensures)
+  left =
+      c .write-with .ensures .1
+      ∙ ap (λ (s : Bool). writeOutputWith net w h (s || noRoom w h (length out)) out)
+      (c .before .before .too-short-for .ensures)
 
 too-short-for-requires : tie.Need-too-short-for-requires
 too-short-for-requires c κs = search needs
@@ -54,7 +60,9 @@ part-read-start c = search needs
 part-read-end : tie.Need-part-read-end
 part-read-end c =
     let k = c .before .before .before .before .before .before in
-    let l = part-there (net k) (w k) (h k) (out k) (back k) (sym (ap writeOutcome (c .before .before .written .given .1)) ∙ outcome k) (left k) in
+    let l =
+    part-there (net k) (w k) (h k) (out k) (back k)
+    (sym (ap writeOutcome (c .before .before .written .given .1)) ∙ outcome k) (left k) in
     search needs
 
 read-requires : tie.Need-read-requires
@@ -73,7 +81,8 @@ returns : tie.Need-returns
 returns c =
     let k = c .before .before .before .before .before .before .before .before .before .before in
     let r =
-    copied (net k) (w k) (h k) (out k) (back k) (sym (ap writeOutcome (c .before .before .before .before .before .before .written .given .1)) ∙ outcome k) (left k)
+    copied (net k) (w k) (h k) (out k) (back k)
+    (sym (ap writeOutcome (c .before .before .before .before .before .before .written .given .1)) ∙ outcome k) (left k)
     (c .before .read .ensures .0) (c .before .read .ensures .1) in
     (r .0, (r .1, r .2))
 
@@ -83,7 +92,9 @@ same-length-3 c = search needs
 returns-2 : tie.Need-returns-2
 returns-2 c =
     let k = c .before .before .before .before .before in
-    let r = not-copied (net k) (w k) (h k) (out k) (back k) (sym (ap writeOutcome (c .before .written2 .given .1)) ∙ outcome k) (left k) in
+    let r =
+    not-copied (net k) (w k) (h k) (out k) (back k) (sym (ap writeOutcome (c .before .written2 .given .1)) ∙ outcome k)
+    (left k) in
     (r .0, (r .1, r .2))
 
 pub copy-through-file-spec : {M : Type 1} → statement M

@@ -19,10 +19,12 @@ returns : tie.Need-returns
 returns c = cond-true _ _ _ (sym (c .before .bad-size .ensures) ∙ c .if1 .taken)
 
 mul-result : tie.Need-mul-result
-mul-result c = omega (arith, few-vertices (good-size (c .before .before .args .w) (c .before .before .args .h) (size c)))
+mul-result c =
+    omega (arith, few-vertices (good-size (c .before .before .args .w) (c .before .before .args .h) (size c)))
 
 mul-result-2 : tie.Need-mul-result-2
-mul-result-2 c = omega (arith, few-vertices (good-size (c .before .before .args .w) (c .before .before .args .h) (size c)))
+mul-result-2 c =
+    omega (arith, few-vertices (good-size (c .before .before .args .w) (c .before .before .args .h) (size c)))
 
 returns-2 : tie.Need-returns-2
 returns-2 c = cond-false _ false _ (size c) refl

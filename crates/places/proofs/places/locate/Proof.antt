@@ -27,22 +27,33 @@ sub-g c = search needs
 
 add-if1 : tie.Need-add-if1
 add-if1 c =
-    let k = in-cells (c .before .before .args .w) (c .before .before .args .h) (c .before .before .args .p) (c .before .before .args .q) (c .before .before .pre .0) (c .before .before .pre .1) in
+    let k =
+    in-cells (c .before .before .args .w) (c .before .before .args .h) (c .before .before .args .p)
+    (c .before .before .args .q) (c .before .before .pre .0) (c .before .before .pre .1) in
     sum-fits _ _ (left-at (c .before .cell-of .ensures) (k .0)) (left-at (c .cell-of2 .ensures) (k .1))
 
 sub-t12 : tie.Need-sub-t12
 sub-t12 c =
-    let k = in-cells (c .before .before .before .args .w) (c .before .before .before .args .h) (c .before .before .before .args .p) (c .before .before .before .args .q) (c .before .before .before .pre .0) (c .before .before .before .pre .1) in
+    let k =
+    in-cells (c .before .before .before .args .w) (c .before .before .before .args .h)
+    (c .before .before .before .args .p) (c .before .before .before .args .q) (c .before .before .before .pre .0)
+    (c .before .before .before .pre .1) in
     left-at (c .before .cell-of2 .ensures) (k .1)
 
 sub-t13 : tie.Need-sub-t13
 sub-t13 c =
-    let k = in-cells (c .before .before .before .args .w) (c .before .before .before .args .h) (c .before .before .before .args .p) (c .before .before .before .args .q) (c .before .before .before .pre .0) (c .before .before .before .pre .1) in
+    let k =
+    in-cells (c .before .before .before .args .w) (c .before .before .before .args .h)
+    (c .before .before .before .args .p) (c .before .before .before .args .q) (c .before .before .before .pre .0)
+    (c .before .before .before .pre .1) in
     left-at (c .before .before .cell-of .ensures) (k .0)
 
 add-t14 : tie.Need-add-t14
 add-t14 c =
-    let k = in-cells (c .before .before .before .args .w) (c .before .before .before .args .h) (c .before .before .before .args .p) (c .before .before .before .args .q) (c .before .before .before .pre .0) (c .before .before .before .pre .1) in
+    let k =
+    in-cells (c .before .before .before .args .w) (c .before .before .before .args .h)
+    (c .before .before .before .args .p) (c .before .before .before .args .q) (c .before .before .before .pre .0)
+    (c .before .before .before .pre .1) in
     sum-fits _ _ (left-at (c .before .before .cell-of .ensures) (k .0)) (left-at (c .before .cell-of2 .ensures) (k .1))
 
 sub-t15 : tie.Need-sub-t15
@@ -57,12 +68,14 @@ sub-t17 c = left-over _ _ (c .if1 .left)
 returns : tie.Need-returns
 returns c =
     let a = c .before .before .before .args in
-    placed (a .w) (a .h) (a .p) (a .q) true (c .before .before .cell-of .ensures) (c .before .cell-of2 .ensures) (lt-ltb _ _ (c .if1 .taken))
+    placed (a .w) (a .h) (a .p) (a .q) true (c .before .before .cell-of .ensures) (c .before .cell-of2 .ensures)
+    (lt-ltb _ _ (c .if1 .taken))
 
 returns-2 : tie.Need-returns-2
 returns-2 c =
     let a = c .before .before .before .args in
-    placed (a .w) (a .h) (a .p) (a .q) false (c .before .before .cell-of .ensures) (c .before .cell-of2 .ensures) (le-ltb _ _ (c .if1 .left))
+    placed (a .w) (a .h) (a .p) (a .q) false (c .before .before .cell-of .ensures) (c .before .cell-of2 .ensures)
+    (le-ltb _ _ (c .if1 .left))
 
 pub locate-spec : {M : Type 1} → statement M
 locate-spec =

@@ -21,7 +21,8 @@ no-place-requires : tie.Need-no-place-requires
 no-place-requires c κs = fine₁ c
 
 returns-2 : tie.Need-returns-2
-returns-2 c = cond-false _ _ _ (fine₁ (c .before .before)) (cond-true _ _ _ (sym (c .before .no-place .ensures) ∙ c .if2 .taken))
+returns-2 c =
+    cond-false _ _ _ (fine₁ (c .before .before)) (cond-true _ _ _ (sym (c .before .no-place .ensures) ∙ c .if2 .taken))
 
 short-net-requires : tie.Need-short-net-requires
 short-net-requires c κs = fine₁ (c .before .before)
@@ -30,13 +31,15 @@ returns-3 : tie.Need-returns-3
 returns-3 c =
     let e = c .before .before in
     cond-false _ _ _ (fine₁ (e .before .before))
-    (cond-false _ _ _ (sym (e .before .no-place .ensures) ∙ e .if2 .left) (cond-true _ _ _ (sym (c .before .short-net .ensures) ∙ c .if3 .taken)))
+    (cond-false _ _ _ (sym (e .before .no-place .ensures) ∙ e .if2 .left)
+    (cond-true _ _ _ (sym (c .before .short-net .ensures) ∙ c .if3 .taken)))
 
 returns-4 : tie.Need-returns-4
 returns-4 c =
     let e = c .before .before in
     cond-false _ _ _ (fine₁ (e .before .before))
-    (cond-false _ _ _ (sym (e .before .no-place .ensures) ∙ e .if2 .left) (cond-false _ _ _ (sym (c .before .short-net .ensures) ∙ c .if3 .left) refl))
+    (cond-false _ _ _ (sym (e .before .no-place .ensures) ∙ e .if2 .left)
+    (cond-false _ _ _ (sym (c .before .short-net .ensures) ∙ c .if3 .left) refl))
 
 pub place-refusal-spec : {M : Type 1} → statement M
 place-refusal-spec =

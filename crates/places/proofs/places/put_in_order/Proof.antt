@@ -25,7 +25,8 @@ with-gaps-requires-2 c κs = search needs
 returns-2 : tie.Need-returns-2
 returns-2 c =
     let s = at (c .before .before .before .before) in
-    ordered s o132 (is-132 s (c .before .before .before .if1 .taken) (c .before .before .if2 .left) (c .before .if3 .taken)) (c .with-gaps2 .ensures)
+    ordered s o132 (is-132 s (c .before .before .before .if1 .taken) (c .before .before .if2 .left)
+    (c .before .if3 .taken)) (c .with-gaps2 .ensures)
 
 with-gaps-requires-3 : tie.Need-with-gaps-requires-3
 with-gaps-requires-3 c κs = search needs
@@ -33,7 +34,8 @@ with-gaps-requires-3 c κs = search needs
 returns-3 : tie.Need-returns-3
 returns-3 c =
     let s = at (c .before .before .before .before) in
-    ordered s o312 (is-312 s (c .before .before .before .if1 .taken) (c .before .before .if2 .left) (c .before .if3 .left)) (c .with-gaps3 .ensures)
+    ordered s o312 (is-312 s (c .before .before .before .if1 .taken) (c .before .before .if2 .left)
+    (c .before .if3 .left)) (c .with-gaps3 .ensures)
 
 with-gaps-requires-4 : tie.Need-with-gaps-requires-4
 with-gaps-requires-4 c κs = search needs
@@ -49,7 +51,8 @@ with-gaps-requires-5 c κs = search needs
 returns-5 : tie.Need-returns-5
 returns-5 c =
     let s = at (c .before .before .before .before) in
-    ordered s o231 (is-231 s (c .before .before .before .if1 .left) (c .before .before .if4 .left) (c .before .if5 .taken)) (c .with-gaps5 .ensures)
+    ordered s o231 (is-231 s (c .before .before .before .if1 .left) (c .before .before .if4 .left)
+    (c .before .if5 .taken)) (c .with-gaps5 .ensures)
 
 with-gaps-requires-6 : tie.Need-with-gaps-requires-6
 with-gaps-requires-6 c κs = search needs
@@ -57,7 +60,8 @@ with-gaps-requires-6 c κs = search needs
 returns-6 : tie.Need-returns-6
 returns-6 c =
     let s = at (c .before .before .before .before) in
-    ordered s o321 (is-321 s (c .before .before .before .if1 .left) (c .before .before .if4 .left) (c .before .if5 .left)) (c .with-gaps6 .ensures)
+    ordered s o321 (is-321 s (c .before .before .before .if1 .left) (c .before .before .if4 .left)
+    (c .before .if5 .left)) (c .with-gaps6 .ensures)
 
 pub put-in-order-spec : {M : Type 1} → statement M
 put-in-order-spec =

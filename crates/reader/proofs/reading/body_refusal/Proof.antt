@@ -24,7 +24,9 @@ module _ (c : tie.Else1) where
   n = c .before .before .before .args .n
 
   clear : Clear (runs n (λ i. pointFaults (fromPoint file i)))
-  clear = passes (runs n (λ i. pointFaults (fromPoint file i))) (points-numbered file n) (c .before .points-refusal .ensures) (c .if1 .left)
+  clear =
+      passes (runs n (λ i. pointFaults (fromPoint file i))) (points-numbered file n)
+      (c .before .points-refusal .ensures) (c .if1 .left)
 
   there : headSize + pointSize * n ≤ length file
   there = points-there file n (c .before .before .before .pre) clear
@@ -36,7 +38,8 @@ returns : tie.Need-returns
 returns c =
     let file = c .before .before .before .args .file .now in
     let n = c .before .before .before .args .n in
-    refuses (runs n (λ i. pointFaults (fromPoint file i))) (endFaults (fromPoint file n)) (c .before .points-refusal .ensures) (c .if1 .taken)
+    refuses (runs n (λ i. pointFaults (fromPoint file i))) (endFaults (fromPoint file n))
+    (c .before .points-refusal .ensures) (c .if1 .taken)
 
 mul-end-refusal : tie.Need-mul-end-refusal
 mul-end-refusal c = let h = there c in omega arith
@@ -61,7 +64,8 @@ returns-2 c =
     let at = c .before .before in
     c .end-refusal .ensures
     ∙ ap (λ (l : List ℕ). firstFault (endFaults l)) (part-from (file at) (headSize + pointSize * n at))
-    ∙ fault-after (runs (n at) (λ i. pointFaults (fromPoint (file at) i))) (endFaults (fromPoint (file at) (n at))) (clear at)
+    ∙ fault-after (runs (n at) (λ i. pointFaults (fromPoint (file at) i))) (endFaults (fromPoint (file at) (n at)))
+    (clear at)
 
 pub body-refusal-spec : {M : Type 1} → statement M
 body-refusal-spec =

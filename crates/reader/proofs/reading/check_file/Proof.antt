@@ -34,7 +34,9 @@ module _ (c : tie.After-known-told) where
   h = c .before .head .given .0 .1 .0
 
   found : Clear (headFaults file short) × (_≡_ {A = List ℕ} (w ∷ h ∷ []) (fileWidth file ∷ fileHeight file ∷ []))
-  found = head-found file short (sym (ap readOutcome (c .before .head .given .1)) ∙ c .before .before .before .parse-head .ensures)
+  found =
+      head-found file short (sym (ap readOutcome (c .before .head .given .1))
+      ∙ c .before .before .before .parse-head .ensures)
 
   good : GoodHead file (start .args .room)
   good = good-head file (start .args .short) (start .args .room) (found .0)
@@ -46,7 +48,8 @@ module _ (c : tie.After-known-told) where
   size = omega (arith, product, few-vertices (good-size (fileWidth file) (fileHeight file) (good .size)))
 
   -- the rest of the file, by its own sides
-  by-count : {n : ℕ} → n ≡ firstFault (bodyFaults file (3 * (w * h))) → n ≡ firstFault (bodyFaults file (points (fileWidth file) (fileHeight file)))
+  by-count : {n : ℕ} → n ≡ firstFault (bodyFaults file (3 * (w * h))) →
+      n ≡ firstFault (bodyFaults file (points (fileWidth file) (fileHeight file)))
   by-count e = e ∙ ap (λ (n : ℕ). firstFault (bodyFaults file (3 * n))) product
 
 parse-head-requires : tie.Need-parse-head-requires
@@ -75,7 +78,8 @@ enum-known-head-2 c = search needs
 returns-2 : tie.Need-returns-2
 returns-2 c =
     let k = c .before .before in
-    file-accepted (file k) (short k) (found k .0) (sym (by-count k (c .before .body-refusal .ensures)) ∙ c .if1 .left) (found k .1)
+    file-accepted (file k) (short k) (found k .0) (sym (by-count k (c .before .body-refusal .ensures)) ∙ c .if1 .left)
+    (found k .1)
 
 returns-3 : tie.Need-returns-3
 returns-3 c =

@@ -40,13 +40,15 @@ returns : tie.Need-returns
 returns c =
     let w = c .before in
     let other : eqb (wordPayload (firstWord (left w))) 0 ≡ false = ne-eqb _ _ (λ e. c .if1 .taken (found w .1 ∙ e)) in
-    cond-true (not (eqb (wordPayload (firstWord (left w))) 0)) 8 _ (ap not other) ∙ fault-after (wordFaults (left w) endKind) (atEnd (left w)) (found w .0)
+    cond-true (not (eqb (wordPayload (firstWord (left w))) 0)) 8 _ (ap not other)
+    ∙ fault-after (wordFaults (left w) endKind) (atEnd (left w)) (found w .0)
 
 returns-2 : tie.Need-returns-2
 returns-2 c =
     let w = c .before .before in
     let zero : eqb (wordPayload (firstWord (left w))) 0 ≡ true = eq-eqb _ _ (sym (found w .1) ∙ c .before .if1 .left) in
-    cond-false (not (eqb (wordPayload (firstWord (left w))) 0)) 8 _ (ap not zero) (cond-true (ltb 4 (length (left w))) 9 0 (lt-ltb _ _ (c .if2 .taken)))
+    cond-false (not (eqb (wordPayload (firstWord (left w))) 0)) 8 _ (ap not zero)
+    (cond-true (ltb 4 (length (left w))) 9 0 (lt-ltb _ _ (c .if2 .taken)))
     ∙ fault-after (wordFaults (left w) endKind) (atEnd (left w)) (found w .0)
 
 enum-known-parsed-2 : tie.Need-enum-known-parsed-2
@@ -56,7 +58,8 @@ returns-3 : tie.Need-returns-3
 returns-3 c =
     let w = c .before .before in
     let zero : eqb (wordPayload (firstWord (left w))) 0 ≡ true = eq-eqb _ _ (sym (found w .1) ∙ c .before .if1 .left) in
-    cond-false (not (eqb (wordPayload (firstWord (left w))) 0)) 8 _ (ap not zero) (cond-false (ltb 4 (length (left w))) 9 0 (le-ltb _ _ (c .if2 .left)) refl)
+    cond-false (not (eqb (wordPayload (firstWord (left w))) 0)) 8 _ (ap not zero)
+    (cond-false (ltb 4 (length (left w))) 9 0 (le-ltb _ _ (c .if2 .left)) refl)
     ∙ fault-after (wordFaults (left w) endKind) (atEnd (left w)) (found w .0)
 
 returns-4 : tie.Need-returns-4

@@ -15,7 +15,8 @@ use Rattle.reader.proofs.reading.load_points.Statement.{statement}
 use Rattle.reader.proofs.reading.load_points.Tie as tie
 
 abbrev Inv-loop : tie.InvT-loop
-Inv-loop file n net₀ i₀ net i = (i ≤ n) × (length net ≡ length net₀) × (net ≡ over (runs i (λ j. firstPoint (fromPoint file j))) net₀)
+Inv-loop file n net₀ i₀ net i =
+    (i ≤ n) × (length net ≡ length net₀) × (net ≡ over (runs i (λ j. firstPoint (fromPoint file j))) net₀)
 
 abbrev μ-loop : tie.MeasureT-loop
 μ-loop file n net₀ i₀ net i = n - i
@@ -42,7 +43,8 @@ first-point-requires : tie.Need-first-point-requires Inv-loop μ-loop
 first-point-requires c κs =
     let file = c .before .before .before .before .args .file .now in
     let at = headSize + pointSize * c .before .before .loop .i in
-    let room : headSize + pointSize * c .before .before .before .before .args .n ≤ length file = c .before .before .before .before .pre .0 in
+    let room : headSize + pointSize * c .before .before .before .before .args .n ≤ length file =
+    c .before .before .before .before .pre .0 in
     omega (arith, ap length (part-from file at), length-drop at file)
 
 mul-store-point : tie.Need-mul-store-point Inv-loop μ-loop
@@ -66,7 +68,8 @@ loop-again c =
     let i = c .before .before .before .before .before .before .loop .i in
     let inv = c .before .before .before .before .before .before .loop .inv in
     let room : pointStride * start .args .n ≤ length old = start .pre .1 in
-    let point = c .before .before .before .first-point .ensures ∙ ap firstPoint (part-from file (headSize + pointSize * i)) in (
+    let point = c .before .before .before .first-point .ensures
+    ∙ ap firstPoint (part-from file (headSize + pointSize * i)) in (
       search needs,
       search needs,
       c .before .store-point .ensures
@@ -81,7 +84,8 @@ returns : tie.Need-returns Inv-loop μ-loop
 returns c =
     let all : c .before .loop .i ≡ c .before .before .before .args .n = omega arith in
     c .before .loop .inv .2
-    ∙ ap (λ (n : ℕ). over (runs n (λ j. firstPoint (fromPoint (c .before .before .before .args .file .now) j))) (c .before .before .before .args .net .now)) all
+    ∙ ap (λ (n : ℕ). over (runs n (λ j. firstPoint (fromPoint (c .before .before .before .args .file .now) j)))
+    (c .before .before .before .args .net .now)) all
 
 pub load-points-spec : {M : Type 1} → statement M
 load-points-spec =

@@ -36,7 +36,9 @@ module _ (c : tie.After-signed-number) where
   at = c .before
 
   number : toZ w32 (ofZ w32 (c .signed-number .result)) ≡ firstNumber (left at)
-  number = reads-as w32 (c .signed-number .result) (c .signed-number .ok) (c .signed-number .ensures ∙ ap signed (found at .1))
+  number =
+      reads-as w32 (c .signed-number .result) (c .signed-number .ok)
+      (c .signed-number .ensures ∙ ap signed (found at .1))
 
 parse-word-requires : tie.Need-parse-word-requires
 parse-word-requires c κs = search needs
@@ -54,7 +56,8 @@ returns : tie.Need-returns
 returns c =
     let w = c .before .before in
     cond-true _ 3 0 (ap beyond (sym (number w)) ∙ sym (c .before .number-beyond .ensures) ∙ c .if1 .taken)
-    ∙ fault-after (wordFaults (left (at w)) (kind (at w))) ((beyond (firstNumber (left (at w))), 3) ∷ []) (found (at w) .0)
+    ∙ fault-after (wordFaults (left (at w)) (kind (at w))) ((beyond (firstNumber (left (at w))), 3) ∷ [])
+    (found (at w) .0)
 
 enum-known-parsed-2 : tie.Need-enum-known-parsed-2
 enum-known-parsed-2 c = search needs
@@ -63,7 +66,8 @@ returns-2 : tie.Need-returns-2
 returns-2 c =
     let w = c .before .before in
     cond-false _ 3 0 (ap beyond (sym (number w)) ∙ sym (c .before .number-beyond .ensures) ∙ c .if1 .left) refl
-    ∙ fault-after (wordFaults (left (at w)) (kind (at w))) ((beyond (firstNumber (left (at w))), 3) ∷ []) (found (at w) .0)
+    ∙ fault-after (wordFaults (left (at w)) (kind (at w))) ((beyond (firstNumber (left (at w))), 3) ∷ [])
+    (found (at w) .0)
 
 returns-3 : tie.Need-returns-3
 returns-3 c =

@@ -19,9 +19,12 @@ use Rattle.reader.proofs.reading.parse_head.Tie as tie
 
 -- what is known of the part from the second word on
 outcome : (l : List ℕ) {r : ℕ × List ℕ} →
-    r ≡ answer (firstFault (sideFaults (take (length l - 4) (drop 4 l)) heightKind)) (wordPayload (firstWord (take (length l - 4) (drop 4 l))) ∷ []) →
+    r ≡ answer (firstFault (sideFaults (take (length l - 4) (drop 4 l)) heightKind))
+    (wordPayload (firstWord (take (length l - 4) (drop 4 l))) ∷ []) →
     r ≡ answer (firstFault (sideFaults (drop 4 l) heightKind)) (fileHeight l ∷ [])
-outcome l e = e ∙ ap (λ (m : List ℕ). answer (firstFault (sideFaults m heightKind)) (wordPayload (firstWord m) ∷ [])) (part-from l 4)
+outcome l e =
+    e ∙ ap (λ (m : List ℕ). answer (firstFault (sideFaults m heightKind)) (wordPayload (firstWord m) ∷ []))
+    (part-from l 4)
 
 -- the width was found
 module _ (c : tie.After-known-told) where
@@ -43,8 +46,10 @@ module _ (c : tie.After-known-told2) where
 
   height : Clear (sideFaults (drop 4 (file at)) heightKind) × (c .before .height .given .0 .0 ≡ fileHeight (file at))
   height =
-      parsed (sideFaults (drop 4 (file at)) heightKind) (fileHeight (file at)) (side-numbered (drop 4 (file at)) heightKind)
-      (sym (ap wordOutcome (c .before .height .given .1)) ∙ outcome (file at) (c .before .before .before .parse-side2 .ensures))
+      parsed (sideFaults (drop 4 (file at)) heightKind) (fileHeight (file at))
+      (side-numbered (drop 4 (file at)) heightKind)
+      (sym (ap wordOutcome (c .before .height .given .1))
+      ∙ outcome (file at) (c .before .before .before .parse-side2 .ensures))
 
 parse-side-requires : tie.Need-parse-side-requires
 parse-side-requires c κs = search needs
@@ -78,7 +83,8 @@ sized-requires c κs =
     let w = c .before .before .before .before .before .before .width .given .0 .0 in
     let h = c .before .height .given .0 .0 in
     sym
-    (or-no (badSide w) (badSide h) (ap badSide (width (at c) .1) ∙ width (at c) .0 .1 .1 .0) (sym (ap badSide (height c .1) ∙ height c .0 .1 .1 .0)))
+    (or-no (badSide w) (badSide h) (ap badSide (width (at c) .1) ∙ width (at c) .0 .1 .1 .0)
+    (sym (ap badSide (height c .1) ∙ height c .0 .1 .1 .0)))
 
 enum-known-height-2 : tie.Need-enum-known-height-2
 enum-known-height-2 c = search needs
@@ -98,7 +104,8 @@ returns c =
     ∙ (λ t. answer (firstFault ((other || ltb room (numbers (w .1 t) (h .1 t)), 5) ∷ [])) (w .1 t ∷ h .1 t ∷ []))
     ∙ ap (λ (n : ℕ). answer n (fileWidth l ∷ fileHeight l ∷ []))
     (fault-after (sideFaults (drop 4 l) heightKind) ((other || shortFor l room, 5) ∷ []) (h .0)
-    ∙ fault-after (sideFaults l widthKind) (sideFaults (drop 4 l) heightKind ++ (other || shortFor l room, 5) ∷ []) (w .0))
+    ∙ fault-after (sideFaults l widthKind) (sideFaults (drop 4 l) heightKind ++ (other || shortFor l room, 5) ∷ [])
+    (w .0))
 
 returns-2 : tie.Need-returns-2
 returns-2 c =
@@ -110,7 +117,8 @@ returns-2 c =
     let e = sym (ap wordOutcome (c .before .height2 .given .1)) ∙ outcome l (c .before .before .before .parse-side2 .ensures) in
     let q = refused (sideFaults (drop 4 l) heightKind) ((other || shortFor l room, 5) ∷ []) (fileHeight l) [] e in
     refused-answer (firstFault (headFaults l (other || shortFor l room))) (fileWidth l ∷ fileHeight l ∷ [])
-    (q .0 ∙ fault-after (sideFaults l widthKind) (sideFaults (drop 4 l) heightKind ++ (other || shortFor l room, 5) ∷ []) (w .0)) (q .1)
+    (q .0 ∙ fault-after (sideFaults l widthKind)
+    (sideFaults (drop 4 l) heightKind ++ (other || shortFor l room, 5) ∷ []) (w .0)) (q .1)
 
 returns-3 : tie.Need-returns-3
 returns-3 c =
@@ -118,8 +126,11 @@ returns-3 c =
     let room = c .before .before .before .before .before .args .room in
     let other = c .before .before .before .before .before .args .short in
     let e = sym (ap wordOutcome (c .before .width2 .given .1)) ∙ c .before .before .before .parse-side .ensures in
-    let q = refused (sideFaults l widthKind) (sideFaults (drop 4 l) heightKind ++ (other || shortFor l room, 5) ∷ []) (fileWidth l) [] e in
-    refused-answer (firstFault (headFaults l (other || shortFor l room))) (fileWidth l ∷ fileHeight l ∷ []) (q .0) (q .1)
+    let q =
+    refused (sideFaults l widthKind) (sideFaults (drop 4 l) heightKind ++ (other || shortFor l room, 5) ∷ [])
+    (fileWidth l) [] e in
+    refused-answer (firstFault (headFaults l (other || shortFor l room))) (fileWidth l ∷ fileHeight l ∷ []) (q .0)
+    (q .1)
 
 pub parse-head-spec : {M : Type 1} → statement M
 parse-head-spec =

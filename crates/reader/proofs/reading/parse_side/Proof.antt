@@ -27,7 +27,9 @@ module _ (c : tie.After-parsed) where
   payload = wordPayload (firstWord left)
 
   found : Clear (wordFaults left kind) × (c .parsed .given .0 .0 ≡ payload)
-  found = parsed (wordFaults left kind) payload (word-numbered left kind) (sym (ap wordOutcome (c .parsed .given .1)) ∙ c .before .before .parse-word .ensures)
+  found =
+      parsed (wordFaults left kind) payload (word-numbered left kind)
+      (sym (ap wordOutcome (c .parsed .given .1)) ∙ c .before .before .parse-word .ensures)
 
 parse-word-requires : tie.Need-parse-word-requires
 parse-word-requires c κs = search needs
@@ -45,7 +47,8 @@ returns : tie.Need-returns
 returns c =
     let w = c .before .before .before in
     let k = found w in
-    let bad : badSide (payload w) ≡ true = ap badSide (sym (k .1)) ∙ sym (c .before .bad-side .ensures) ∙ c .if1 .taken in
+    let bad : badSide (payload w) ≡ true = ap badSide (sym (k .1)) ∙ sym (c .before .bad-side .ensures)
+    ∙ c .if1 .taken in
     refused-answer (firstFault (sideFaults (left w) (kind w))) (payload w ∷ [])
     (cond-true _ 1 0 bad ∙ fault-after (wordFaults (left w) (kind w)) ((badSide (payload w), 1) ∷ []) (k .0))
     (λ e. omega (arith, e))
@@ -57,9 +60,11 @@ returns-2 : tie.Need-returns-2
 returns-2 c =
     let w = c .before .before .before in
     let k = found w in
-    let good : badSide (payload w) ≡ false = ap badSide (sym (k .1)) ∙ sym (c .before .bad-side .ensures) ∙ c .if1 .left in
+    let good : badSide (payload w) ≡ false = ap badSide (sym (k .1)) ∙ sym (c .before .bad-side .ensures)
+    ∙ c .if1 .left in
     accepted-answer (firstFault (sideFaults (left w) (kind w))) (payload w ∷ [])
-    (sym (cond-false _ 1 0 good refl ∙ fault-after (wordFaults (left w) (kind w)) ((badSide (payload w), 1) ∷ []) (k .0)))
+    (sym (cond-false _ 1 0 good refl
+    ∙ fault-after (wordFaults (left w) (kind w)) ((badSide (payload w), 1) ∷ []) (k .0)))
     (λ t. k .1 t ∷ [])
 
 returns-3 : tie.Need-returns-3

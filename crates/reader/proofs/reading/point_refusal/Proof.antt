@@ -19,7 +19,9 @@ abbrev afterX : List ℕ → List Fault
 afterX left = numberFaults (drop 4 left) yKind ++ numberFaults (drop 8 left) zKind
 
 -- what is known of a part of the slice
-outcome : (left : List ℕ) (n kind : ℕ) {r : ℕ} → r ≡ firstFault (numberFaults (take (length left - n) (drop n left)) kind) → r ≡ firstFault (numberFaults (drop n left) kind)
+outcome : (left : List ℕ) (n kind : ℕ) {r : ℕ} →
+    r ≡ firstFault (numberFaults (take (length left - n) (drop n left)) kind) →
+    r ≡ firstFault (numberFaults (drop n left) kind)
 outcome left n kind e = e ∙ ap (λ (l : List ℕ). firstFault (numberFaults l kind)) (part-from left n)
 
 module _ (c : tie.Else1) where
@@ -27,7 +29,8 @@ module _ (c : tie.Else1) where
   left = c .before .before .before .args .left .now
 
   x-clear : Clear (numberFaults left xKind)
-  x-clear = passes (numberFaults left xKind) (number-numbered left xKind) (c .before .number-refusal .ensures) (c .if1 .left)
+  x-clear =
+      passes (numberFaults left xKind) (number-numbered left xKind) (c .before .number-refusal .ensures) (c .if1 .left)
 
   x-there : 4 ≤ length left
   x-there = ltb-false (length left) 4 (x-clear .0)
@@ -68,7 +71,8 @@ returns-2 : tie.Need-returns-2
 returns-2 c =
     let at = c .before .before .before in
     let e = outcome (left at) 4 yKind (c .before .number-refusal2 .ensures) in
-    refuses (numberFaults (drop 4 (left at)) yKind) (numberFaults (drop 8 (left at)) zKind) e (c .if2 .taken) ∙ fault-after (numberFaults (left at) xKind) (afterX (left at)) (x-clear at)
+    refuses (numberFaults (drop 4 (left at)) yKind) (numberFaults (drop 8 (left at)) zKind) e (c .if2 .taken)
+    ∙ fault-after (numberFaults (left at) xKind) (afterX (left at)) (x-clear at)
 
 sub-number-refusal-2 : tie.Need-sub-number-refusal-2
 sub-number-refusal-2 c = y-there c

@@ -38,13 +38,22 @@ module _ (c : tie.After-point-refusal) where
   at = c .before .before .before .before
 
   outcome : c .point-refusal .result ≡ firstFault (faults at (whole at))
-  outcome = c .point-refusal .ensures ∙ ap (λ (l : List ℕ). firstFault (pointFaults l)) (part-from (file at) (headSize + pointSize * whole at))
+  outcome =
+      c .point-refusal .ensures
+      ∙ ap (λ (l : List ℕ). firstFault (pointFaults l)) (part-from (file at) (headSize + pointSize * whole at))
 
   refused : c .point-refusal .result ≡ 0 → ⊥
   refused z =
       let k = passes (faults at (whole at)) (point-numbered (fromPoint (file at) (whole at))) outcome z in
       let last : whole at < n at = c .before .before .if2 .taken in
-      omega (arith, fewer at, last, point-long (fromPoint (file at) (whole at)) k, length-drop (headSize + pointSize * whole at) (file at))
+      omega (
+        arith,
+        fewer at,
+        last,
+        point-long (fromPoint (file at) (whole at)) k,
+        length-drop
+            (headSize + pointSize * whole at) (file at),
+      )
 
 sub-lesser : tie.Need-sub-lesser
 sub-lesser c = search needs
@@ -58,7 +67,8 @@ whole-points-refusal-requires c κs = search needs
 returns : tie.Need-returns
 returns c =
     let k = c .before in
-    fault-in-front (whole k) (n k) (faults k) (omega (arith, fewer k)) (k .whole-points-refusal .ensures) (c .if1 .taken)
+    fault-in-front (whole k) (n k) (faults k) (omega (arith, fewer k)) (k .whole-points-refusal .ensures)
+    (c .if1 .taken)
 
 mul-point-refusal : tie.Need-mul-point-refusal
 mul-point-refusal c = search needs
@@ -82,7 +92,8 @@ returns-2 : tie.Need-returns-2
 returns-2 c =
     let k = at c in
     fault-in-runs (n k) (faults k) (whole k) (c .before .before .if2 .taken)
-    (passes (runs (whole k) (faults k)) (points-numbered (file k) (whole k)) (k .whole-points-refusal .ensures) (c .before .before .before .if1 .left))
+    (passes (runs (whole k) (faults k)) (points-numbered (file k) (whole k)) (k .whole-points-refusal .ensures)
+    (c .before .before .before .if1 .left))
     (outcome c) (refused c)
 
 returns-3 : tie.Need-returns-3

@@ -55,7 +55,9 @@ module _ (c : tie.After-known-told) where
   there : headSize + pointSize * (3 * (w * h)) ≤ length file
   there =
       let n = points (fileWidth file) (fileHeight file) in
-      let clear = clear-parts (runs n (λ i. pointFaults (fromPoint file i))) (endFaults (fromPoint file n)) (read-parts file short (found .0) .1) in
+      let clear =
+      clear-parts (runs n (λ i. pointFaults (fromPoint file i))) (endFaults (fromPoint file n))
+      (read-parts file short (found .0) .1) in
       omega (arith, points-there file n (good .there) (clear .0), product)
 
 check-file-requires : tie.Need-check-file-requires
@@ -75,8 +77,8 @@ load-points-requires c κs =
     let k = c .before in
     (omega (arith, there k), omega (arith, good k .room-enough, product k))
 
-enum-known-found-2 : tie.Need-enum-known-found-2
-enum-known-found-2 c = search needs
+enum-told : tie.Need-enum-told
+enum-told c = search needs
 
 same-length : tie.Need-same-length
 same-length c = search needs
@@ -84,14 +86,19 @@ same-length c = search needs
 returns : tie.Need-returns
 returns c =
     let k = c .before .before .before in
-    let outcome = sym (ap readOutcome (k .before .found .given .1)) ∙ k .before .before .before .check-file .ensures in
-    (outcome, net-read (file k) (short k) (net k) (found k .0) (c .before .load-points .ensures ∙ ap (λ (n : ℕ). over (runs (3 * n) (λ i. firstPoint (fromPoint (file k) i))) (net k)) (product k)))
+    let outcome = sym (ap readOutcome (k .before .found .given .1)) ∙ k .before .before .before .check-file .ensures in (
+      outcome,
+      net-read (file k) (short k) (net k) (found k .0)
+          (c .before .load-points .ensures
+          ∙ ap (λ (n : ℕ). over (runs (3 * n) (λ i. firstPoint (fromPoint (file k) i))) (net k)) (product k)),
+    )
 
 returns-2 : tie.Need-returns-2
 returns-2 c =
-    let a = c .before .before .before .before .before .args in
-    let outcome = sym (ap readOutcome (c .before .found2 .given .1)) ∙ c .before .before .before .check-file .ensures in
-    (outcome, net-kept (a .file .now) (a .short || shortFor (a .file .now) (length (a .net .now))) (a .net .now) outcome)
+    let a = c .before .before .before .before .args in
+    let answer = c .before .before .check-file .ensures in
+    let short = a .short || shortFor (a .file .now) (length (a .net .now)) in
+    (answer, net-kept (a .file .now) short (a .net .now) (sym (ap readOutcome (c .enum-told .given .1)) ∙ answer))
 
 pub read-with-spec : {M : Type 1} → statement M
 read-with-spec =
@@ -102,7 +109,7 @@ read-with-spec =
     mul-load-points
     mul-load-points-2
     load-points-requires
-    enum-known-found-2
+    enum-told
     same-length
     returns
     returns-2)

@@ -73,7 +73,8 @@ point-refusal-requires c κs = search needs
 returns : tie.Need-returns Inv-loop μ-loop
 returns c =
     let p = c .before in
-    fault-in-runs (count p) (faults p) (at p) (p .before .before .loop-test .taken) (p .before .before .before .loop .inv .1) (refusal p) (c .if1 .taken)
+    fault-in-runs (count p) (faults p) (at p) (p .before .before .loop-test .taken)
+    (p .before .before .before .loop .inv .1) (refusal p) (c .if1 .taken)
 
 add-i : tie.Need-add-i Inv-loop μ-loop
 add-i c = search needs
@@ -86,7 +87,8 @@ loop-again c =
     let p = c .before in
     let k = passes (faults p (at p)) (point-numbered (fromPoint (file p) (at p))) (refusal p) (c .if1 .left) in (
       search needs,
-      subst Clear (sym (runs-suc (at p) (faults p))) (clear-append (runs (at p) (faults p)) (faults p (at p)) (p .before .before .before .loop .inv .1) k),
+      subst Clear (sym (runs-suc (at p) (faults p)))
+          (clear-append (runs (at p) (faults p)) (faults p (at p)) (p .before .before .before .loop .inv .1) k),
     )
 
 returns-2 : tie.Need-returns-2 Inv-loop μ-loop

@@ -15,7 +15,9 @@ module _ (c : tie.Else1) where
   start = c .before .before
 
   abbrev short : Bool
-  short = start .args .short || tooShort (start .args .w) (start .args .h) (start .args .k) (start .args .room) (start .args .scratch)
+  short =
+      start .args .short || tooShort (start .args .w) (start .args .h) (start .args .k) (start .args .room)
+      (start .args .scratch)
 
   long : shortNet (start .args .net .now) (start .args .w) (start .args .h) ≡ false
   long = sym (c .before .short-net .ensures) ∙ c .if1 .left
@@ -27,7 +29,9 @@ module _ (c : tie.Else1) where
 
 -- 5 does not refuse
 roomy : (c : tie.Else3) → short (c .before .before .before) ≡ false
-roomy c = sym (or-no (c .before .before .before .before .before .args .short) _ (c .before .before .if2 .left) (sym (c .if3 .left) ∙ c .before .too-short .ensures))
+roomy c =
+    sym (or-no (c .before .before .before .before .before .args .short) _ (c .before .before .if2 .left)
+    (sym (c .if3 .left) ∙ c .before .too-short .ensures))
 
 short-net-requires : tie.Need-short-net-requires
 short-net-requires c κs = search needs
@@ -42,16 +46,26 @@ too-short-requires : tie.Need-too-short-requires
 too-short-requires c κs = search needs
 
 returns-3 : tie.Need-returns-3
-returns-3 c = past (c .before .before .before) (cond-true _ 5 _ (sym (or-no (c .before .before .before .before .before .args .short) _ (c .before .before .if2 .left) (sym (c .if3 .taken) ∙ c .before .too-short .ensures))))
+returns-3 c =
+    past (c .before .before .before)
+    (cond-true _ 5 _ (sym (or-no (c .before .before .before .before .before .args .short) _
+    (c .before .before .if2 .left) (sym (c .if3 .taken) ∙ c .before .too-short .ensures))))
 
 net-beyond-requires : tie.Need-net-beyond-requires
-net-beyond-requires c κs = (c .before .before .before .before .before .pre .0, ltb-false _ _ (long (c .before .before .before)))
+net-beyond-requires c κs =
+    (c .before .before .before .before .before .pre .0, ltb-false _ _ (long (c .before .before .before)))
 
 returns-4 : tie.Need-returns-4
-returns-4 c = past (c .before .before .before .before .before) (cond-false _ 5 _ (roomy (c .before .before)) (cond-true _ 3 0 (sym (c .before .net-beyond .ensures) ∙ c .if4 .taken)))
+returns-4 c =
+    past (c .before .before .before .before .before)
+    (cond-false _ 5 _ (roomy (c .before .before))
+    (cond-true _ 3 0 (sym (c .before .net-beyond .ensures) ∙ c .if4 .taken)))
 
 returns-5 : tie.Need-returns-5
-returns-5 c = past (c .before .before .before .before .before) (cond-false _ 5 _ (roomy (c .before .before)) (cond-false _ 3 0 (sym (c .before .net-beyond .ensures) ∙ c .if4 .left) refl))
+returns-5 c =
+    past (c .before .before .before .before .before)
+    (cond-false _ 5 _ (roomy (c .before .before))
+    (cond-false _ 3 0 (sym (c .before .net-beyond .ensures) ∙ c .if4 .left) refl))
 
 pub net-refusal-spec : {M : Type 1} → statement M
 net-refusal-spec =

@@ -14,7 +14,9 @@ depth : (c : tie.Start) → Depth (c .args .w) (c .args .h) (c .args .k)
 depth c = good-depth (c .args .w) (c .args .h) (c .args .k) (c .pre .0) (c .pre .1)
 
 few : (c : tie.After-side-after2) → c .before .side-after .result * c .side-after2 .result ≤ 1050625
-few c = subst (λ (n : ℕ). n ≤ 1050625) (λ t. sym (c .before .side-after .ensures) t * sym (c .side-after2 .ensures) t) (few-after (depth (c .before .before)))
+few c =
+    subst (λ (n : ℕ). n ≤ 1050625) (λ t. sym (c .before .side-after .ensures) t * sym (c .side-after2 .ensures) t)
+    (few-after (depth (c .before .before)))
 
 side-after-requires : tie.Need-side-after-requires
 side-after-requires c κs = wide-ready (depth c)

@@ -23,7 +23,9 @@ returns-2 : tie.Need-returns-2
 returns-2 c = cond-false _ 1 _ (size (c .before .before)) (cond-true _ 4 _ (sym (c .before .too-deep .ensures) ∙ c .if2 .taken))
 
 returns-3 : tie.Need-returns-3
-returns-3 c = cond-false _ 1 _ (size (c .before .before)) (cond-false _ 4 _ (sym (c .before .too-deep .ensures) ∙ c .if2 .left) refl)
+returns-3 c =
+    cond-false _ 1 _ (size (c .before .before))
+    (cond-false _ 4 _ (sym (c .before .too-deep .ensures) ∙ c .if2 .left) refl)
 
 pub size-refusal-spec : {M : Type 1} → statement M
 size-refusal-spec =

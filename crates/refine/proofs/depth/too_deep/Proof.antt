@@ -22,7 +22,8 @@ returns-2 : tie.Need-returns-2
 returns-2 c =
     let s = c .before .before .before in
     or-no (ltb 6 (s .args .k)) _ (le-ltb 6 (s .args .k) (c .before .before .if1 .left))
-    (or-yes (ltb 1025 (sideAfter (s .args .k) (s .args .w))) _ (sym (ap (ltb 1025) (c .before .side-after .ensures)) ∙ lt-ltb 1025 _ (c .if2 .taken)))
+    (or-yes (ltb 1025 (sideAfter (s .args .k) (s .args .w))) _
+    (sym (ap (ltb 1025) (c .before .side-after .ensures)) ∙ lt-ltb 1025 _ (c .if2 .taken)))
 
 side-after-requires-2 : tie.Need-side-after-requires-2
 side-after-requires-2 c κs = (omega (arith, size (c .before .before .before) .high), size (c .before .before .before) .low, c .before .before .if1 .left)
@@ -31,7 +32,8 @@ returns-3 : tie.Need-returns-3
 returns-3 c =
     let s = c .before .before .before .before in
     or-no (ltb 6 (s .args .k)) _ (le-ltb 6 (s .args .k) (c .before .before .before .if1 .left))
-    (or-no (ltb 1025 (sideAfter (s .args .k) (s .args .w))) _ (sym (ap (ltb 1025) (c .before .before .side-after .ensures)) ∙ le-ltb 1025 _ (c .before .if2 .left))
+    (or-no (ltb 1025 (sideAfter (s .args .k) (s .args .w))) _
+    (sym (ap (ltb 1025) (c .before .before .side-after .ensures)) ∙ le-ltb 1025 _ (c .before .if2 .left))
     (ap (ltb 1025) (c .side-after2 .ensures)))
 
 pub too-deep-spec : {M : Type 1} → statement M

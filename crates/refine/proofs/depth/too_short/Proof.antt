@@ -22,7 +22,8 @@ returns-2 : tie.Need-returns-2
 returns-2 c =
     let s = c .before .before .before in
     let none : 0 ≡ scratchNeed (s .args .k) (s .args .w) (s .args .h) = cond-true _ 0 _ (lt-ltb (s .args .k) 2 (c .if2 .taken)) in
-    or-no (ltb (s .args .room) _) _ (sym (c .before .before .shorter-than .ensures) ∙ c .before .if1 .left) (sym (le-ltb (s .args .scratch) 0 (omega arith)) ∙ ap (ltb (s .args .scratch)) none)
+    or-no (ltb (s .args .room) _) _ (sym (c .before .before .shorter-than .ensures) ∙ c .before .if1 .left)
+    (sym (le-ltb (s .args .scratch) 0 (omega arith)) ∙ ap (ltb (s .args .scratch)) none)
 
 sub-shorter-than : tie.Need-sub-shorter-than
 sub-shorter-than c = search needs
@@ -35,8 +36,12 @@ shorter-than-requires-2 c κs =
 returns-3 : tie.Need-returns-3
 returns-3 c =
     let s = c .before .before .before .before in
-    let need : numbersAfter (s .args .k - 1) (s .args .w) (s .args .h) ≡ scratchNeed (s .args .k) (s .args .w) (s .args .h) = cond-false (ltb (s .args .k) 2) 0 _ (le-ltb (s .args .k) 2 (c .before .if2 .left)) refl in
-    or-no (ltb (s .args .room) _) _ (sym (c .before .before .before .shorter-than .ensures) ∙ c .before .before .if1 .left) (c .shorter-than2 .ensures ∙ ap (ltb (s .args .scratch)) need)
+    let need : numbersAfter (s .args .k - 1) (s .args .w) (s .args .h)
+    ≡ scratchNeed (s .args .k) (s .args .w) (s .args .h) =
+    cond-false (ltb (s .args .k) 2) 0 _ (le-ltb (s .args .k) 2 (c .before .if2 .left)) refl in
+    or-no (ltb (s .args .room) _) _
+    (sym (c .before .before .before .shorter-than .ensures) ∙ c .before .before .if1 .left)
+    (c .shorter-than2 .ensures ∙ ap (ltb (s .args .scratch)) need)
 
 pub too-short-spec : {M : Type 1} → statement M
 too-short-spec =

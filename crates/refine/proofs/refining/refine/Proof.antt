@@ -14,7 +14,8 @@ use Rattle.refine.proofs.refining.refine.Statement.{statement}
 use Rattle.refine.proofs.refining.refine.Tie as tie
 
 abbrev refusal : tie.Start → ℕ
-refusal s = refusalOf (s .args .net .now) (s .args .w) (s .args .h) (s .args .k) (s .args .out .now) (s .args .scratch .now)
+refusal s =
+    refusalOf (s .args .net .now) (s .args .w) (s .args .h) (s .args .k) (s .args .out .now) (s .args .scratch .now)
 
 abbrev result : tie.Start → List ℤ
 result s = refinedNet (s .args .net .now) (s .args .w) (s .args .h) (s .args .k)
@@ -27,7 +28,8 @@ module _ (c : tie.Then1) where
   taken : (let s = c .before .before in Refinable (s .args .net .now) (s .args .w) (s .args .h) (s .args .k) (length (s .args .out .now)) (length (s .args .scratch .now)))
   taken =
       let s = c .before .before in
-      refine-accepted (s .args .net .now) (s .args .w) (s .args .h) (s .args .k) (length (s .args .out .now)) (length (s .args .scratch .now)) none
+      refine-accepted (s .args .net .now) (s .args .w) (s .args .h) (s .args .k) (length (s .args .out .now))
+      (length (s .args .scratch .now)) none
 
 refusal-of-requires : tie.Need-refusal-of-requires
 refusal-of-requires c κs = search needs

@@ -11,7 +11,9 @@ use Rattle.refine.proofs.refining.refusal_of.Tie as tie
 
 -- the faults after 1 and 4
 abbrev rest : tie.Start → List Fault
-rest s = netFaults (s .args .net .now) (s .args .w) (s .args .h) (tooShort (s .args .w) (s .args .h) (s .args .k) (s .args .room) (s .args .scratch))
+rest s =
+    netFaults (s .args .net .now) (s .args .w) (s .args .h)
+    (tooShort (s .args .w) (s .args .h) (s .args .k) (s .args .room) (s .args .scratch))
 
 -- 1 and 4 do not refuse
 clear : (c : tie.Else1) → Clear (sizeFaults (c .before .before .args .w) (c .before .before .args .h) (c .before .before .args .k))
@@ -35,7 +37,8 @@ net-refusal-requires c κs =
 returns-2 : tie.Need-returns-2
 returns-2 c =
     let s = c .before .before .before in
-    c .net-refusal .ensures ∙ fault-after (sizeFaults (s .args .w) (s .args .h) (s .args .k)) (rest s) (clear (c .before))
+    c .net-refusal .ensures ∙ fault-after (sizeFaults (s .args .w) (s .args .h) (s .args .k)) (rest s)
+    (clear (c .before))
 
 pub refusal-of-spec : {M : Type 1} → statement M
 refusal-of-spec = tie.close (tie.spec size-refusal-requires returns net-refusal-requires returns-2)

@@ -21,7 +21,13 @@ side-after-requires c κs = wide-ready (depth c)
 sub-if1 : tie.Need-sub-if1
 sub-if1 c =
     let g = depth (c .before) in
-    omega (arith, c .side-after .ensures, side-grows (c .before .args .k) (c .before .args .w) (wide-ready g .0), g .wide)
+    omega (
+      arith,
+      c .side-after .ensures,
+      side-grows (c .before .args .k) (c .before .args .w)
+          (wide-ready g .0),
+      g .wide,
+    )
 
 mul-if1 : tie.Need-mul-if1
 mul-if1 c = omega (arith, c .side-after .ensures, depth (c .before) .narrow)
@@ -38,7 +44,13 @@ side-after-requires-2 c κs = high-ready (depth (c .before .before))
 sub-result : tie.Need-sub-result
 sub-result c =
     let g = depth (c .before .before .before) in
-    omega (arith, c .side-after2 .ensures, side-grows (c .before .before .before .args .k) (c .before .before .before .args .h) (high-ready g .0), g .high)
+    omega (
+      arith,
+      c .side-after2 .ensures,
+      side-grows (c .before .before .before .args .k)
+          (c .before .before .before .args .h) (high-ready g .0),
+      g .high,
+    )
 
 mul-result : tie.Need-mul-result
 mul-result c = omega (arith, c .side-after2 .ensures, depth (c .before .before .before) .low)
@@ -47,7 +59,8 @@ returns-2 : tie.Need-returns-2
 returns-2 c =
     let s = c .before .before .before in
     or-no (ltb (1024 * (sideAfter (s .args .k) (s .args .w) - 1)) (s .args .p)) _
-    ((λ t. ltb (1024 * (sym (c .before .before .side-after .ensures) t - 1)) (s .args .p)) ∙ le-ltb _ _ (c .before .if1 .left))
+    ((λ t. ltb (1024 * (sym (c .before .before .side-after .ensures) t - 1)) (s .args .p))
+    ∙ le-ltb _ _ (c .before .if1 .left))
     (λ t. ltb (1024 * (c .side-after2 .ensures t - 1)) (s .args .q))
 
 pub off-grid-spec : {M : Type 1} → statement M

@@ -22,7 +22,8 @@ use Rattle.refined_points.proofs.points.refined_point_with.Tie as tie
 
 abbrev refusal : tie.Start → ℕ
 refusal s =
-    refusalAt (s .args .net .now) (s .args .w) (s .args .h) (s .args .k) (s .args .p) (s .args .q) (s .args .short) (s .args .out .now) (s .args .scratch .now)
+    refusalAt (s .args .net .now) (s .args .w) (s .args .h) (s .args .k) (s .args .p) (s .args .q) (s .args .short)
+    (s .args .out .now) (s .args .scratch .now)
 
 abbrev result : tie.Start → List ℤ
 result s = refinedNet (s .args .net .now) (s .args .w) (s .args .h) (s .args .k)
@@ -37,12 +38,15 @@ module _ (c : tie.Else1) where
 
   taken :
       (let s = c .before .before in
-      Refinable (s .args .net .now) (s .args .w) (s .args .h) (s .args .k) (length (s .args .out .now)) (length (s .args .scratch .now))
-      × OnGrid 1024 (sideAfter (s .args .k) (s .args .w)) (sideAfter (s .args .k) (s .args .h)) (s .args .p) (s .args .q)
+      Refinable (s .args .net .now) (s .args .w) (s .args .h) (s .args .k) (length (s .args .out .now))
+      (length (s .args .scratch .now))
+      × OnGrid 1024 (sideAfter (s .args .k) (s .args .w)) (sideAfter (s .args .k) (s .args .h)) (s .args .p)
+      (s .args .q)
       × (s .args .short ≡ false))
   taken =
       let s = c .before .before in
-      point-accepted (s .args .net .now) (s .args .w) (s .args .h) (s .args .k) (s .args .p) (s .args .q) (s .args .short) (length (s .args .out .now)) (length (s .args .scratch .now)) none
+      point-accepted (s .args .net .now) (s .args .w) (s .args .h) (s .args .k) (s .args .p) (s .args .q)
+      (s .args .short) (length (s .args .out .now)) (length (s .args .scratch .now)) none
 
 refusal-at-requires : tie.Need-refusal-at-requires
 refusal-at-requires c κs = search needs
@@ -92,13 +96,18 @@ returns-2 c =
     c .surface-point .ensures
     ∙ (λ i. pointAnswer (steps .ensures .0 i) (c .before .before .before .side-after .ensures i) (c .before .before .side-after2 .ensures i) (a .p) (a .q))
     ∙ sym (point-answered (a .net .now) (a .w) (a .h) (a .k) (a .out .now) (t .0) (a .p) (a .q) (t .1))
-    ∙ accepted-answer (refusal s) (values s) (none e) (point-of-refined (a .net .now) (a .w) (a .h) (a .k) (a .out .now) (t .0) (a .p) (a .q) (t .1)) in
-    let left = left-accepted (refusal s) (a .k) (a .w) (a .h) (result s) (a .out .now) (a .scratch .now) (steps .last .1 .1 .1 .1 .1 .0) (none e) (steps .ensures .0) (steps .ensures .1) in
+    ∙ accepted-answer (refusal s) (values s) (none e)
+    (point-of-refined (a .net .now) (a .w) (a .h) (a .k) (a .out .now) (t .0) (a .p) (a .q) (t .1)) in
+    let left =
+    left-accepted (refusal s) (a .k) (a .w) (a .h) (result s) (a .out .now) (a .scratch .now)
+    (steps .last .1 .1 .1 .1 .1 .0) (none e) (steps .ensures .0) (steps .ensures .1) in
     record {
       answer = outcome;
       output = left .0;
       scratchFree = left .1;
-      demandThree = answer-claimed (a .net .now) (a .w) (a .h) (a .k) (a .p) (a .q) (a .short) (a .out .now) (a .scratch .now) outcome;
+      demandThree =
+          answer-claimed (a .net .now) (a .w) (a .h) (a .k) (a .p) (a .q) (a .short) (a .out .now)
+          (a .scratch .now) outcome;
     }
 
 pub refined-point-with-spec : {M : Type 1} → statement M

@@ -15,11 +15,15 @@ use Rattle.refined_points.proofs.points.refusal_at.Tie as tie
 abbrev rest : tie.Start → List Fault
 rest s =
     (offGrid (s .args .w) (s .args .h) (s .args .k) (s .args .p) (s .args .q), 6)
-    ∷ netFaults (s .args .net .now) (s .args .w) (s .args .h) (s .args .short || tooShort (s .args .w) (s .args .h) (s .args .k) (s .args .room) (s .args .scratch))
+    ∷ netFaults (s .args .net .now) (s .args .w) (s .args .h)
+    (s .args .short || tooShort (s .args .w) (s .args .h) (s .args .k) (s .args .room) (s .args .scratch))
 
 -- 1 and 4 do not refuse
-clear : (c : tie.Else1) → Clear (sizeFaults (c .before .before .args .w) (c .before .before .args .h) (c .before .before .args .k))
-clear c = none-clear (sizeFaults (c .before .before .args .w) (c .before .before .args .h) (c .before .before .args .k)) (lit< tt, (lit< tt, tt)) (sym (c .before .size-refusal .ensures) ∙ c .if1 .left)
+clear : (c : tie.Else1) →
+    Clear (sizeFaults (c .before .before .args .w) (c .before .before .args .h) (c .before .before .args .k))
+clear c =
+    none-clear (sizeFaults (c .before .before .args .w) (c .before .before .args .h) (c .before .before .args .k))
+    (lit< tt, (lit< tt, tt)) (sym (c .before .size-refusal .ensures) ∙ c .if1 .left)
 
 size-refusal-requires : tie.Need-size-refusal-requires
 size-refusal-requires c κs = search needs
@@ -39,7 +43,8 @@ off-grid-requires c κs =
 returns-2 : tie.Need-returns-2
 returns-2 c =
     let s = c .before .before .before .before in
-    cond-true (offGrid (s .args .w) (s .args .h) (s .args .k) (s .args .p) (s .args .q)) 6 _ (sym (c .before .off-grid .ensures) ∙ c .if2 .taken)
+    cond-true (offGrid (s .args .w) (s .args .h) (s .args .k) (s .args .p) (s .args .q)) 6 _
+    (sym (c .before .off-grid .ensures) ∙ c .if2 .taken)
     ∙ fault-after (sizeFaults (s .args .w) (s .args .h) (s .args .k)) (rest s) (clear (c .before .before))
 
 net-refusal-requires : tie.Need-net-refusal-requires
@@ -50,7 +55,8 @@ net-refusal-requires c κs =
 returns-3 : tie.Need-returns-3
 returns-3 c =
     let s = c .before .before .before .before .before in
-    cond-false (offGrid (s .args .w) (s .args .h) (s .args .k) (s .args .p) (s .args .q)) 6 _ (sym (c .before .before .off-grid .ensures) ∙ c .before .if2 .left) (c .net-refusal .ensures)
+    cond-false (offGrid (s .args .w) (s .args .h) (s .args .k) (s .args .p) (s .args .q)) 6 _
+    (sym (c .before .before .off-grid .ensures) ∙ c .before .if2 .left) (c .net-refusal .ensures)
     ∙ fault-after (sizeFaults (s .args .w) (s .args .h) (s .args .k)) (rest s) (clear (c .before .before .before))
 
 pub refusal-at-spec : {M : Type 1} → statement M

@@ -34,7 +34,8 @@ within-sum [] = tt
 within-sum (n ∷ row) = (omega arith, within-more (sum row) (n + sum row) (omega arith) (map pos row) (within-sum row))
 
 -- values that are i32s lie between the limits of an i32
-i32s : (values : List ℤ) (us : List Val) → shadow (each ℤ (SInt w32 .own) values us) → AllBetween (negℤ (pos (2 ^ 31))) (pos (2 ^ 31 - 1)) values
+i32s : (values : List ℤ) (us : List Val) → shadow (each ℤ (SInt w32 .own) values us) →
+    AllBetween (negℤ (pos (2 ^ 31))) (pos (2 ^ 31 - 1)) values
 i32s [] us h = tt
 i32s (v ∷ values) [] h = absurd h
 i32s (v ∷ values) (u ∷ us) h =
@@ -46,14 +47,19 @@ i32s (v ∷ values) (u ∷ us) h =
 mean-fits : (row : List ℕ) (values : List ℤ) (us : List Val) → goodRow row ≡ true → length values ≡ 6 →
     shadow (each ℤ (SInt w32 .own) values us) → SFits w32 (rounded (weightedSum (map pos row) values) 12)
 mean-fits row values us e long h =
-    let r = mean-range 12 (lit< tt) (total-sum row ∙ ap pos (good-sum row e)) (all-in-range (negℤ (pos (2 ^ 31))) (pos (2 ^ 31 - 1)) (map pos row) values (length-map row pos ∙ good-length row e ∙ sym long) (not-negative row) (i32s values us h)) in
+    let r =
+    mean-range 12 (lit< tt) (total-sum row ∙ ap pos (good-sum row e))
+    (all-in-range (negℤ (pos (2 ^ 31))) (pos (2 ^ 31 - 1)) (map pos row) values
+    (length-map row pos ∙ good-length row e ∙ sym long) (not-negative row) (i32s values us h)) in
     fits-between (r .0) (≤ℤ-<ℤ-trans (r .1) (omega integers))
 
 module _ (c : tie.After-weighted-mean6) where
-  exact : c .weighted-mean6 .result ≡ rounded (weightedSum (map pos (c .before .before .args .row)) (c .before .before .args .values)) 12
+  exact : c .weighted-mean6 .result
+      ≡ rounded (weightedSum (map pos (c .before .before .args .row)) (c .before .before .args .values)) 12
   exact =
       c .weighted-mean6 .ensures
-      ∙ ap (λ (ws : List ℤ). rounded (weightedSum ws (c .before .before .args .values)) 12) (c .before .widened .ensures)
+      ∙ ap (λ (ws : List ℤ). rounded (weightedSum ws (c .before .before .args .values)) 12)
+      (c .before .widened .ensures)
 
   fits : SFits w32 (toZ w64 (ofZ w64 (c .weighted-mean6 .result)))
   fits =
@@ -68,8 +74,12 @@ widened-requires c κs = search needs
 weighted-mean6-requires : tie.Need-weighted-mean6-requires
 weighted-mean6-requires c κs =
     let row = c .before .args .row in
-    let few : sum row ≤ 67108864 = omega (arith, good-sum row (c .before .pre)) in
-    (subst (Within 67108864) (sym (c .widened .ensures)) (within-more (sum row) 67108864 few (map pos row) (within-sum row)), lit< tt, lit≤ tt)
+    let few : sum row ≤ 67108864 = omega (arith, good-sum row (c .before .pre)) in (
+      subst (Within 67108864) (sym (c .widened .ensures))
+          (within-more (sum row) 67108864 few (map pos row) (within-sum row)),
+      lit< tt,
+      lit≤ tt,
+    )
 
 cast-result : tie.Need-cast-result
 cast-result c = fits c

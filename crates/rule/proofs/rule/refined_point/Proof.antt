@@ -14,7 +14,8 @@ use Rattle.rule.proofs.rule.refined_point.Statement.{statement}
 use Rattle.rule.proofs.rule.refined_point.Tie as tie
 
 -- what a call of `refined_number` gave, read back, of the values that a call of `values_at` gave
-number : (r : ℤ) (row : List ℕ) {vs us : List ℤ} → mag r < 2 ^ 31 → r ≡ rounded (weightedSum (map pos row) vs) 12 → vs ≡ us →
+number : (r : ℤ) (row : List ℕ) {vs us : List ℤ} → mag r < 2 ^ 31 → r ≡ rounded (weightedSum (map pos row) vs) 12 →
+    vs ≡ us →
     toZ w32 (ofZ w32 r) ≡ rounded (weightedSum (map pos row) us) 12
 number r row g e f = reads-as w32 r g (e ∙ ap (λ (ws : List ℤ). rounded (weightedSum (map pos row) ws) 12) f)
 
@@ -42,9 +43,12 @@ returns c =
     let x = y .before .before in
     let row = x .before .before .args .row in
     λ t.
-    number (x .refined-number .result) row (x .refined-number .ok) (x .refined-number .ensures) (x .before .values-at .ensures) t
-    ∷ number (y .refined-number2 .result) row (y .refined-number2 .ok) (y .refined-number2 .ensures) (y .before .values-at2 .ensures) t
-    ∷ number (c .refined-number3 .result) row (c .refined-number3 .ok) (c .refined-number3 .ensures) (c .before .values-at3 .ensures) t
+    number (x .refined-number .result) row (x .refined-number .ok) (x .refined-number .ensures)
+    (x .before .values-at .ensures) t
+    ∷ number (y .refined-number2 .result) row (y .refined-number2 .ok) (y .refined-number2 .ensures)
+    (y .before .values-at2 .ensures) t
+    ∷ number (c .refined-number3 .result) row (c .refined-number3 .ok) (c .refined-number3 .ensures)
+    (c .before .values-at3 .ensures) t
     ∷ []
 
 pub refined-point-spec : {M : Type 1} → statement M

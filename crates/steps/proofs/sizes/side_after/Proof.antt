@@ -18,10 +18,22 @@ abbrev μ-loop : tie.MeasureT-loop
 -- within the loop
 module _ (c : tie.In-loop Inv-loop μ-loop) where
   small : c .before .loop .side ≤ 65600
-  small = omega (arith, c .before .loop .inv .1, side-small (c .before .loop .i) (c .before .before .args .n) (c .before .before .pre .1) (omega arith))
+  small =
+      omega (
+        arith,
+        c .before .loop .inv .1,
+        side-small (c .before .loop .i) (c .before .before .args .n)
+            (c .before .before .pre .1) (omega arith),
+      )
 
   grown : 1 ≤ c .before .loop .side
-  grown = omega (arith, c .before .loop .inv .1, side-grows (c .before .loop .i) (c .before .before .args .n) (c .before .before .pre .0))
+  grown =
+      omega (
+        arith,
+        c .before .loop .inv .1,
+        side-grows (c .before .loop .i) (c .before .before .args .n)
+            (c .before .before .pre .0),
+      )
 
 loop-holds : tie.Need-loop-holds Inv-loop μ-loop
 loop-holds c = (omega arith, refl)
@@ -40,7 +52,8 @@ loop-less c = search needs
 
 loop-again : tie.Need-loop-again Inv-loop μ-loop
 loop-again c =
-    let one-more : sideAfter (c .before .loop .i + 1) (c .before .before .args .n) ≡ 2 * sideAfter (c .before .loop .i) (c .before .before .args .n) - 1 =
+    let one-more : sideAfter (c .before .loop .i + 1) (c .before .before .args .n)
+    ≡ 2 * sideAfter (c .before .loop .i) (c .before .before .args .n) - 1 =
     ap (λ (m : ℕ). sideAfter m (c .before .before .args .n)) (add-one (c .before .loop .i)) in
     (search needs, omega (arith, c .before .loop .inv .1, one-more))
 

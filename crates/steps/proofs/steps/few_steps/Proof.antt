@@ -33,14 +33,20 @@ copy-over-requires : tie.Need-copy-over-requires
 copy-over-requires c κs =
     let s = c .before .before .before in
     let n = numbers (s .args .w) (s .args .h) in
-    let room = subst (λ (k : ℕ). numbersAfter k (s .args .w) (s .args .h) ≤ length (s .args .out .now)) (c .before .before .if1 .taken) (s .pre .3) in
+    let room =
+    subst (λ (k : ℕ). numbersAfter k (s .args .w) (s .args .h) ≤ length (s .args .out .now))
+    (c .before .before .if1 .taken) (s .pre .3) in
     omega (arith, length-take n (s .args .net .now), room)
 
 refine-once-requires : tie.Need-refine-once-requires
 refine-once-requires c κs =
     let s = c .before .before in
-    let one : s .args .k ≡ 1 = omega (arith, s .pre .0, c .before .if1 .left) in
-    (subst (Depth (s .args .w) (s .args .h)) one (s .pre .1), s .pre .2, subst (λ (k : ℕ). numbersAfter k (s .args .w) (s .args .h) ≤ length (s .args .out .now)) one (s .pre .3))
+    let one : s .args .k ≡ 1 = omega (arith, s .pre .0, c .before .if1 .left) in (
+      subst (Depth (s .args .w) (s .args .h)) one (s .pre .1),
+      s .pre .2,
+      subst
+          (λ (k : ℕ). numbersAfter k (s .args .w) (s .args .h) ≤ length (s .args .out .now)) one (s .pre .3),
+    )
 
 same-length : tie.Need-same-length
 same-length c = search needs
@@ -51,7 +57,9 @@ returns c =
     let whole : numbers (s .args .w) (s .args .h) - 0 ≡ numbers (s .args .w) (s .args .h) = omega arith in
     c .before .copy-over .ensures
     ∙ (λ t. over (take (whole t) (s .args .net .now)) (s .args .out .now))
-    ∙ ap (λ (l : List ℤ). over l (s .args .out .now)) (copied (s .args .net .now) (s .args .w) (s .args .h) (s .args .k) (c .before .before .before .before .if1 .taken) (s .pre .2))
+    ∙ ap (λ (l : List ℤ). over l (s .args .out .now))
+    (copied (s .args .net .now) (s .args .w) (s .args .h) (s .args .k) (c .before .before .before .before .if1 .taken)
+    (s .pre .2))
 
 same-length-2 : tie.Need-same-length-2
 same-length-2 c = search needs

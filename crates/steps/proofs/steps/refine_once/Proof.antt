@@ -16,7 +16,8 @@ use Rattle.steps.proofs.steps.refine_once.Statement.{statement}
 use Rattle.steps.proofs.steps.refine_once.Tie as tie
 
 abbrev Inv-loop : tie.InvT-loop
-Inv-loop net w h out₀ high j₀ out j = (j ≤ high) × (length out ≡ length out₀) × (out ≡ over (runs j (rowRun (refinedFields net w) (refinedSide w))) out₀)
+Inv-loop net w h out₀ high j₀ out j =
+    (j ≤ high) × (length out ≡ length out₀) × (out ≡ over (runs j (rowRun (refinedFields net w) (refinedSide w))) out₀)
 
 abbrev μ-loop : tie.MeasureT-loop
 μ-loop net w h out₀ high j₀ out j = high - j
@@ -48,14 +49,23 @@ loop-again c =
     let wide = refinedSide (s .args .w) in
     let F = refinedFields (s .args .net .now) (s .args .w) in
     let place : stride * (j * wide) ≡ j * (wide * stride) = omega (arith, mul-assoc j wide stride) in
-    let below : (j + 1) * (wide * stride) ≤ refinedSide (s .args .h) * (wide * stride) = mul-le-mul (omega arith) (le-refl (wide * stride)) in
+    let below : (j + 1) * (wide * stride) ≤ refinedSide (s .args .h) * (wide * stride) =
+    mul-le-mul (omega arith) (le-refl (wide * stride)) in
     let fits : (j + 1) * (wide * stride) ≤ length (s .args .out .now) =
-    omega (arith, below, s .pre .2, mul-assoc (refinedSide (s .args .h)) wide stride, mul-comm (refinedSide (s .args .h)) wide) in (
+    omega (
+      arith,
+      below,
+      s .pre .2,
+      mul-assoc (refinedSide (s .args .h)) wide stride,
+      mul-comm
+          (refinedSide (s .args .h)) wide,
+    ) in (
       search needs,
       search needs,
       c .before .refine-row .ensures
           ∙ (λ t. sets (c .before .before .before .before .loop .inv .2 t) (place t) (rowRun F wide j))
-          ∙ over-more (s .args .out .now) j (wide * stride) (rowRun F wide) (λ m h. row-length stride (vertexRun F) (λ v. refl) wide m) fits,
+          ∙ over-more (s .args .out .now) j (wide * stride) (rowRun F wide)
+          (λ m h. row-length stride (vertexRun F) (λ v. refl) wide m) fits,
     )
 
 same-length : tie.Need-same-length Inv-loop μ-loop
@@ -66,7 +76,9 @@ unfolding refinedNet stored grid
 returns c =
     let s = c .before .before in
     let all : c .before .loop .j ≡ refinedSide (s .args .h) = omega arith in
-    c .before .loop .inv .2 ∙ ap (λ (n : ℕ). over (runs n (rowRun (refinedFields (s .args .net .now) (s .args .w)) (refinedSide (s .args .w)))) (s .args .out .now)) all
+    c .before .loop .inv .2 ∙ ap
+    (λ (n : ℕ). over (runs n (rowRun (refinedFields (s .args .net .now) (s .args .w)) (refinedSide (s .args .w))))
+    (s .args .out .now)) all
 
 pub refine-once-spec : {M : Type 1} → statement M
 refine-once-spec =

@@ -17,7 +17,9 @@ use Rattle.steps.proofs.steps.refine_row.Statement.{statement}
 use Rattle.steps.proofs.steps.refine_row.Tie as tie
 
 abbrev Inv-loop : tie.InvT-loop
-Inv-loop net w h j out₀ wide at i₀ out i = (i ≤ wide) × (length out ≡ length out₀) × (out ≡ sets out₀ at (runs i (λ m. vertexRun (refinedFields net w) (vertexAt m j))))
+Inv-loop net w h j out₀ wide at i₀ out i =
+    (i ≤ wide) × (length out ≡ length out₀)
+    × (out ≡ sets out₀ at (runs i (λ m. vertexRun (refinedFields net w) (vertexAt m j))))
 
 abbrev μ-loop : tie.MeasureT-loop
 μ-loop net w h j out₀ wide at i₀ out i = wide - i
@@ -34,7 +36,9 @@ ends : (c : tie.In-loop Inv-loop μ-loop) →
     (end ≤ length (s .args .out .now)) × (end ≤ stride * 1051800))
 ends c =
     let s = c .before .before in
-    let stored = vertex-ends {w = 2 * s .args .w - 1} {h = 2 * s .args .h - 1} {i = c .before .loop .i} {j = s .args .j} (omega arith) (omega (arith, s .pre .1)) in
+    let stored =
+    vertex-ends {w = 2 * s .args .w - 1} {h = 2 * s .args .h - 1} {i = c .before .loop .i} {j = s .args .j}
+    (omega arith) (omega (arith, s .pre .1)) in
     (omega (arith, stored, s .pre .0 .2), omega (arith, few s, s .pre .0 .0 .narrow))
 
 mul-wide : tie.Need-mul-wide Inv-loop μ-loop
@@ -56,7 +60,9 @@ refined-vertex-requires : tie.Need-refined-vertex-requires Inv-loop μ-loop
 refined-vertex-requires c κs =
     let s = c .before .before in
     let i = c .before .loop .i in
-    let ends = vertex-ends {w = s .args .w} {h = s .args .h} {i = (i + 1) / 2} {j = (s .args .j + 1) / 2} (omega arith) (omega (arith, s .pre .1)) in
+    let ends =
+    vertex-ends {w = s .args .w} {h = s .args .h} {i = (i + 1) / 2} {j = (s .args .j + 1) / 2} (omega arith)
+    (omega (arith, s .pre .1)) in
     omega (arith, ends, s .pre .0 .1)
 
 mul-store-triangle : tie.Need-mul-store-triangle Inv-loop μ-loop
@@ -84,9 +90,12 @@ loop-again c =
       search needs,
       search needs,
       c .before .store-triangle .ensures
-          ∙ stored-controls net (s .args .w) v (c .before .before .before .before .before .loop .out) (at + stride * i) (c .before .before .before .refined-vertex .ensures)
-          ∙ (λ t. sets (c .before .before .before .before .before .loop .inv .2 t) (at + mul-comm stride i t) (vertexRun (refinedFields net (s .args .w)) v))
-          ∙ runs-more (s .args .out .now) at i stride (λ m. vertexRun (refinedFields net (s .args .w)) (vertexAt m (s .args .j))) (λ m h. refl),
+          ∙ stored-controls net (s .args .w) v (c .before .before .before .before .before .loop .out) (at + stride * i)
+          (c .before .before .before .refined-vertex .ensures)
+          ∙ (λ t. sets (c .before .before .before .before .before .loop .inv .2 t) (at + mul-comm stride i t)
+          (vertexRun (refinedFields net (s .args .w)) v))
+          ∙ runs-more (s .args .out .now) at i stride
+          (λ m. vertexRun (refinedFields net (s .args .w)) (vertexAt m (s .args .j))) (λ m h. refl),
     )
 
 same-length : tie.Need-same-length Inv-loop μ-loop
@@ -97,7 +106,8 @@ returns c =
     let s = c .before .before in
     let all : c .before .loop .i ≡ refinedSide (s .args .w) = omega arith in
     c .before .loop .inv .2
-    ∙ ap (λ (n : ℕ). sets (s .args .out .now) (stride * (s .args .j * refinedSide (s .args .w))) (runs n (λ m. vertexRun (refinedFields (s .args .net .now) (s .args .w)) (vertexAt m (s .args .j))))) all
+    ∙ ap (λ (n : ℕ). sets (s .args .out .now) (stride * (s .args .j * refinedSide (s .args .w)))
+    (runs n (λ m. vertexRun (refinedFields (s .args .net .now) (s .args .w)) (vertexAt m (s .args .j))))) all
 
 pub refine-row-spec : {M : Type 1} → statement M
 refine-row-spec =

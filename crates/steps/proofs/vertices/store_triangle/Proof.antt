@@ -45,7 +45,8 @@ returns c =
     let at = s .args .at in
     c .before .store-point3 .ensures
     ∙ (λ t. sets ((c .before .before .before .before .before .store-point2 .ensures
-    ∙ (λ u. sets (c .before .before .before .before .before .before .before .before .before .store-point .ensures u) (at + pointStride) (getD (s .args .t1) 1 []))) t) (at + 2 * pointStride) (getD (s .args .t1) 2 []))
+    ∙ (λ u. sets (c .before .before .before .before .before .before .before .before .before .store-point .ensures u)
+    (at + pointStride) (getD (s .args .t1) 1 []))) t) (at + 2 * pointStride) (getD (s .args .t1) 2 []))
 
 pub store-triangle-spec : {M : Type 1} → statement M
 store-triangle-spec =

@@ -33,12 +33,22 @@ returns : tie.Need-returns
 returns c =
     let k = c .before .before .before .before .before .before .before .before .args .k in
     λ t.
-    part (c .before .before .before .before .before .before .before .weighted-sum6 .result) (c .before .before .before .before .before .before .before .weighted-sum6 .ok) (c .before .before .before .before .before .before .before .weighted-sum6 .ensures) t
-    ∷ part (c .before .before .before .before .before .before .weighted-sum62 .result) (c .before .before .before .before .before .before .weighted-sum62 .ok) (c .before .before .before .before .before .before .weighted-sum62 .ensures) t
-    ∷ part (c .before .before .before .before .before .weighted-sum63 .result) (c .before .before .before .before .before .weighted-sum63 .ok) (c .before .before .before .before .before .weighted-sum63 .ensures) t
-    ∷ part (c .before .before .before .before .weighted-sum64 .result) (c .before .before .before .before .weighted-sum64 .ok) (c .before .before .before .before .weighted-sum64 .ensures) t
-    ∷ part (c .before .before .before .weighted-sum65 .result) (c .before .before .before .weighted-sum65 .ok) (c .before .before .before .weighted-sum65 .ensures) t
-    ∷ part (c .before .before .weighted-sum66 .result) (c .before .before .weighted-sum66 .ok) (c .before .before .weighted-sum66 .ensures) t
+    part (c .before .before .before .before .before .before .before .weighted-sum6 .result)
+    (c .before .before .before .before .before .before .before .weighted-sum6 .ok)
+    (c .before .before .before .before .before .before .before .weighted-sum6 .ensures) t
+    ∷ part (c .before .before .before .before .before .before .weighted-sum62 .result)
+    (c .before .before .before .before .before .before .weighted-sum62 .ok)
+    (c .before .before .before .before .before .before .weighted-sum62 .ensures) t
+    ∷ part (c .before .before .before .before .before .weighted-sum63 .result)
+    (c .before .before .before .before .before .weighted-sum63 .ok)
+    (c .before .before .before .before .before .weighted-sum63 .ensures) t
+    ∷ part (c .before .before .before .before .weighted-sum64 .result)
+    (c .before .before .before .before .weighted-sum64 .ok)
+    (c .before .before .before .before .weighted-sum64 .ensures) t
+    ∷ part (c .before .before .before .weighted-sum65 .result) (c .before .before .before .weighted-sum65 .ok)
+    (c .before .before .before .weighted-sum65 .ensures) t
+    ∷ part (c .before .before .weighted-sum66 .result) (c .before .before .weighted-sum66 .ok)
+    (c .before .before .weighted-sum66 .ensures) t
     ∷ part (c .before .weighted-sum67 .result) (c .before .weighted-sum67 .ok) (c .before .weighted-sum67 .ensures) t
     ∷ part (c .weighted-sum68 .result) (c .weighted-sum68 .ok) (c .weighted-sum68 .ensures) t
     ∷ none k (search needs) t

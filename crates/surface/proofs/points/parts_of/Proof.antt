@@ -22,14 +22,16 @@ returns : tie.Need-returns
 returns c =
     let a = c .before .before .before .args in
     c .parts-ahead .ensures
-    ∙ ap (λ (k : List ℤ). map (λ (row : List ℤ). weightedSum row k) (partRows true)) (c .before .before .squares .ensures)
+    ∙ ap (λ (k : List ℤ). map (λ (row : List ℤ). weightedSum row k) (partRows true))
+    (c .before .before .squares .ensures)
     ∙ ap (λ (d : Bool). parts d (a .a) (a .b) (a .g)) (sym (c .before .if1 .taken))
 
 returns-2 : tie.Need-returns-2
 returns-2 c =
     let a = c .before .before .before .args in
     c .parts-behind .ensures
-    ∙ ap (λ (k : List ℤ). map (λ (row : List ℤ). weightedSum row k) (partRows false)) (c .before .before .squares .ensures)
+    ∙ ap (λ (k : List ℤ). map (λ (row : List ℤ). weightedSum row k) (partRows false))
+    (c .before .before .squares .ensures)
     ∙ ap (λ (d : Bool). parts d (a .a) (a .b) (a .g)) (sym (c .before .if1 .left))
 
 pub parts-of-spec : {M : Type 1} → statement M

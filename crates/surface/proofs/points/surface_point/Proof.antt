@@ -57,11 +57,16 @@ module _ (c : tie.After-locate) where
       (in-net-place (net at) (w at) (h at) (p at) (q at) (good at .size) (good at .place) (good at .long))
 
 -- what each later call gave, said of the place
-beyond : (c : tie.After-triangle-beyond) → c .triangle-beyond .result ≡ triangleBeyond (net (at (c .before))) (w (at (c .before))) (place (c .before))
-beyond c = c .triangle-beyond .ensures ∙ ap (triangleBeyond (net (at (c .before))) (w (at (c .before)))) (found-place (c .before))
+beyond : (c : tie.After-triangle-beyond) →
+    c .triangle-beyond .result ≡ triangleBeyond (net (at (c .before))) (w (at (c .before))) (place (c .before))
+beyond c =
+    c .triangle-beyond .ensures
+    ∙ ap (triangleBeyond (net (at (c .before))) (w (at (c .before)))) (found-place (c .before))
 
 loaded : (c : tie.After-load-triangle) →
-    c .load-triangle .result ≡ cornerControls (net (at (c .before .before .before))) (w (at (c .before .before .before))) (place (c .before .before .before))
+    c .load-triangle .result
+    ≡ cornerControls (net (at (c .before .before .before))) (w (at (c .before .before .before)))
+    (place (c .before .before .before))
 loaded c =
     let l = c .before .before .before in
     c .load-triangle .ensures ∙ ap (cornerControls (net (at l)) (w (at l))) (found-place l)
@@ -81,7 +86,9 @@ in-order c =
 -- the control triangles, reordered and arranged
 arranged-is : (c : tie.After-arrange) →
     (let o = c .before .before .put-in-order .result in
-    c .arrange .result ≡ arranged (o .p) (o .q) (o .t) (reorderedControls (c .before .before .before .before .before .before .locate .result .down) (c .before .before .before .load-triangle .result)))
+    c .arrange .result ≡ arranged (o .p) (o .q) (o .t)
+    (reorderedControls (c .before .before .before .before .before .before .locate .result .down)
+    (c .before .before .before .load-triangle .result)))
 arranged-is c =
     let o = c .before .before .put-in-order .result in
     c .arrange .ensures ∙ ap (arranged (o .p) (o .q) (o .t)) (c .before .reorder-controls .ensures)
@@ -94,7 +101,8 @@ returns c =
     let a = c .before .before .args in
     let outcome = c .before .place-refusal .ensures in
     refused-point (a .net .now) (a .w) (a .h) (a .p) (a .q)
-    (outcome ∙ refused-place (a .net .now) (a .w) (a .h) (a .p) (a .q) (λ e. c .if1 .taken (outcome ∙ e))) (c .if1 .taken)
+    (outcome ∙ refused-place (a .net .now) (a .w) (a .h) (a .p) (a .q) (λ e. c .if1 .taken (outcome ∙ e)))
+    (c .if1 .taken)
 
 locate-requires : tie.Need-locate-requires
 locate-requires c κs = (good c .size, good c .place)
@@ -107,7 +115,8 @@ returns-2 c =
     let l = c .before .before in
     let e = l .before in
     refused-point (net e) (w e) (h e) (p e) (q e)
-    (range-refusal (net e) (w e) (h e) (p e) (q e) (good e) (cond-true _ 3 0 (sym (beyond (c .before)) ∙ c .if2 .taken))) (λ z. absurd (omega (arith, z)))
+    (range-refusal (net e) (w e) (h e) (p e) (q e) (good e)
+    (cond-true _ 3 0 (sym (beyond (c .before)) ∙ c .if2 .taken))) (λ z. absurd (omega (arith, z)))
 
 load-triangle-requires : tie.Need-load-triangle-requires
 load-triangle-requires c κs = lies (c .before .before)
@@ -128,8 +137,12 @@ reorder-controls-requires c κs = search needs
 arrange-requires : tie.Need-arrange-requires
 arrange-requires c κs =
     let o = orderOf (shares-of (at (c .before .before .before .before .before))) in
-    let i = in-order (c .before) in
-    (below-three (cornerP o) (i .first-corner), below-three (cornerQ o) (i .second-corner), below-three (cornerT o) (i .last-corner))
+    let i = in-order (c .before) in (
+      below-three (cornerP o) (i .first-corner),
+      below-three (cornerQ o) (i .second-corner),
+      below-three (cornerT o)
+          (i .last-corner),
+    )
 
 evaluate-requires : tie.Need-evaluate-requires
 evaluate-requires c κs =
@@ -151,7 +164,8 @@ returns-3 c =
     let kind = l .locate .ensures .kind in
     let e = at l in
     accepted-point (net e) (w e) (h e) (p e) (q e)
-    (range-refusal (net e) (w e) (h e) (p e) (q e) (good e) (cond-false _ 3 0 (sym (beyond (v .before .before)) ∙ v .before .if2 .left) refl))
+    (range-refusal (net e) (w e) (h e) (p e) (q e) (good e)
+    (cond-false _ 3 0 (sym (beyond (v .before .before)) ∙ v .before .if2 .left) refl))
     (c .evaluate .ensures .0 ∙ ap (λ (l : List (List (List ℤ))). evaluated (f .ahead) (f .a) (f .b) (f .g) l 0) t ∙ evaluated-coordinate (net e) (w e) (h e) (p e) (q e) 0 kind (loaded v) (in-order o))
     (c .evaluate .ensures .1 .0 ∙ ap (λ (l : List (List (List ℤ))). evaluated (f .ahead) (f .a) (f .b) (f .g) l 1) t ∙ evaluated-coordinate (net e) (w e) (h e) (p e) (q e) 1 kind (loaded v) (in-order o))
     (c .evaluate .ensures .1 .1 ∙ ap (λ (l : List (List (List ℤ))). evaluated (f .ahead) (f .a) (f .b) (f .g) l 2) t ∙ evaluated-coordinate (net e) (w e) (h e) (p e) (q e) 2 kind (loaded v) (in-order o))

@@ -40,15 +40,18 @@ returns : tie.Need-returns
 returns c =
     let matched = c .before .before .before .before .before .before .before .answer .given in
     let fits = c .before .struct-told3 .given in
-    let outcome = sym (ap pointOutcome (matched .1)) ∙ c .before .before .before .before .before .before .before .before .before .surface-point .ensures in
+    let outcome = sym (ap pointOutcome (matched .1))
+    ∙ c .before .before .before .before .before .before .before .before .before .surface-point .ensures in
     let x : c .before .before .before .before .millimetres-of .result ≡ millimetres (matched .0 .0 .x) = coordinate _ (fits .0 .1) (c .before .before .before .before .millimetres-of .ensures) in
     let y : c .before .before .millimetres-of2 .result ≡ millimetres (matched .0 .0 .y) = coordinate _ (fits .1 .0 .1) (c .before .before .millimetres-of2 .ensures) in
-    let z : c .millimetres-of3 .result ≡ millimetres (matched .0 .0 .z) = coordinate _ (fits .1 .1 .0 .1) (c .millimetres-of3 .ensures) in
+    let z : c .millimetres-of3 .result
+    ≡ millimetres (matched .0 .0 .z) = coordinate _ (fits .1 .1 .0 .1) (c .millimetres-of3 .ensures) in
     (λ t. (0, x t ∷ y t ∷ z t ∷ [])) ∙ viewed _ _ _ _ _ outcome
 
 returns-2 : tie.Need-returns-2
 returns-2 c =
-    let outcome = sym (ap pointOutcome (c .before .answer2 .given .1)) ∙ c .before .before .before .surface-point .ensures in
+    let outcome = sym (ap pointOutcome (c .before .answer2 .given .1))
+    ∙ c .before .before .before .surface-point .ensures in
     viewed _ _ _ _ _ outcome
 
 pub view-point-spec : {M : Type 1} → statement M

@@ -19,7 +19,8 @@ mean-fits c =
     (fits-of-size {w = w32} (point-small (a .weights) (a .values) (search needs) (c .before .pre .0) (c .before .pre .1)) tt)
 
 weighted-mean9-requires : tie.Need-weighted-mean9-requires
-weighted-mean9-requires c κs = (within-more 25165824 67108864 (lit≤ tt) (c .args .weights) (c .pre .0), lit< tt, lit≤ tt)
+weighted-mean9-requires c κs =
+    (within-more 25165824 67108864 (lit≤ tt) (c .args .weights) (c .pre .0), lit< tt, lit≤ tt)
 
 cast-result : tie.Need-cast-result
 cast-result c = mean-fits c

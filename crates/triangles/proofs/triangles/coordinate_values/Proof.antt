@@ -13,7 +13,8 @@ use Rattle.triangles.proofs.triangles.coordinate_values.Statement.{stat
 use Rattle.triangles.proofs.triangles.coordinate_values.Tie as tie
 
 -- a number of a column that a call gave, read back
-read : (l : List ℤ) {m : List ℤ} → l ≡ m → (i : ℕ) → mag (getD l i (pos 0)) < 2 ^ 31 → toZ w32 (ofZ w32 (getD l i (pos 0))) ≡ getD m i (pos 0)
+read : (l : List ℤ) {m : List ℤ} → l ≡ m → (i : ℕ) → mag (getD l i (pos 0)) < 2 ^ 31 →
+    toZ w32 (ofZ w32 (getD l i (pos 0))) ≡ getD m i (pos 0)
 read l e i g = reads-as w32 (getD l i (pos 0)) g (ap (λ (k : List ℤ). getD k i (pos 0)) e)
 
 array-copy-out-column : tie.Need-array-copy-out-column
@@ -65,12 +66,18 @@ returns : tie.Need-returns
 returns c =
     let at = c .before .before .before .before .before .before .before .before .before in
     λ t.
-    read (at .before .before .before .before .column .result) (at .before .before .before .before .column .ensures) 0 (c .before .before .before .before .before .before .before .before .t17 .given) t
-    ∷ read (at .before .before .before .before .column .result) (at .before .before .before .before .column .ensures) 1 (c .before .before .before .before .before .before .before .t20 .given) t
-    ∷ read (at .before .before .before .before .column .result) (at .before .before .before .before .column .ensures) 2 (c .before .before .before .before .before .before .t23 .given) t
-    ∷ read (at .before .before .column2 .result) (at .before .before .column2 .ensures) 0 (c .before .before .before .before .before .t26 .given) t
-    ∷ read (at .before .before .column2 .result) (at .before .before .column2 .ensures) 1 (c .before .before .before .before .t29 .given) t
-    ∷ read (at .before .before .column2 .result) (at .before .before .column2 .ensures) 2 (c .before .before .before .t32 .given) t
+    read (at .before .before .before .before .column .result) (at .before .before .before .before .column .ensures) 0
+    (c .before .before .before .before .before .before .before .before .t17 .given) t
+    ∷ read (at .before .before .before .before .column .result) (at .before .before .before .before .column .ensures) 1
+    (c .before .before .before .before .before .before .before .t20 .given) t
+    ∷ read (at .before .before .before .before .column .result) (at .before .before .before .before .column .ensures) 2
+    (c .before .before .before .before .before .before .t23 .given) t
+    ∷ read (at .before .before .column2 .result) (at .before .before .column2 .ensures) 0
+    (c .before .before .before .before .before .t26 .given) t
+    ∷ read (at .before .before .column2 .result) (at .before .before .column2 .ensures) 1
+    (c .before .before .before .before .t29 .given) t
+    ∷ read (at .before .before .column2 .result) (at .before .before .column2 .ensures) 2
+    (c .before .before .before .t32 .given) t
     ∷ read (at .column3 .result) (at .column3 .ensures) 0 (c .before .before .t35 .given) t
     ∷ read (at .column3 .result) (at .column3 .ensures) 1 (c .before .t38 .given) t
     ∷ read (at .column3 .result) (at .column3 .ensures) 2 (c .t41 .given) t

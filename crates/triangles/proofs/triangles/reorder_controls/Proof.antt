@@ -46,14 +46,18 @@ pick-requires-6 c κs = search needs
 returns : tie.Need-returns
 returns c =
     let a = c .before .before .before .before .before .before .before .args in
-    (λ t. c .before .before .before .before .pick .ensures t ∷ c .before .before .pick2 .ensures t ∷ c .pick3 .ensures t ∷ [])
-    ∙ ap (λ (d : Bool). reorderedControls d (a .t1)) (sym (c .before .before .before .before .before .before .if1 .taken))
+    (λ t. c .before .before .before .before .pick .ensures t ∷ c .before .before .pick2 .ensures t ∷ c .pick3 .ensures t
+    ∷ [])
+    ∙ ap (λ (d : Bool). reorderedControls d (a .t1))
+    (sym (c .before .before .before .before .before .before .if1 .taken))
 
 returns-2 : tie.Need-returns-2
 returns-2 c =
     let a = c .before .before .before .before .before .before .before .args in
-    (λ t. c .before .before .before .before .pick4 .ensures t ∷ c .before .before .pick5 .ensures t ∷ c .pick6 .ensures t ∷ [])
-    ∙ ap (λ (d : Bool). reorderedControls d (a .t1)) (sym (c .before .before .before .before .before .before .if1 .left))
+    (λ t. c .before .before .before .before .pick4 .ensures t ∷ c .before .before .pick5 .ensures t
+    ∷ c .pick6 .ensures t ∷ [])
+    ∙ ap (λ (d : Bool). reorderedControls d (a .t1))
+    (sym (c .before .before .before .before .before .before .if1 .left))
 
 pub reorder-controls-spec : {M : Type 1} → statement M
 reorder-controls-spec =

@@ -34,12 +34,14 @@ vertices-beyond-requires-2 c κs = search needs
 returns : tie.Need-returns
 returns c =
     let a = c .before .before .args in
-    c .vertices-beyond .ensures ∙ ap (λ (d : Bool). triangleBeyond (a .net .now) (a .w) (triangleAt (a .i) (a .j) d)) (sym (c .before .if1 .taken))
+    c .vertices-beyond .ensures
+    ∙ ap (λ (d : Bool). triangleBeyond (a .net .now) (a .w) (triangleAt (a .i) (a .j) d)) (sym (c .before .if1 .taken))
 
 returns-2 : tie.Need-returns-2
 returns-2 c =
     let a = c .before .before .args in
-    c .vertices-beyond2 .ensures ∙ ap (λ (d : Bool). triangleBeyond (a .net .now) (a .w) (triangleAt (a .i) (a .j) d)) (sym (c .before .if1 .left))
+    c .vertices-beyond2 .ensures
+    ∙ ap (λ (d : Bool). triangleBeyond (a .net .now) (a .w) (triangleAt (a .i) (a .j) d)) (sym (c .before .if1 .left))
 
 pub triangle-beyond-spec : {M : Type 1} → statement M
 triangle-beyond-spec =

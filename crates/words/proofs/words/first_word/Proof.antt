@@ -16,7 +16,8 @@ returns : tie.Need-returns
 returns c =
     c .swap-bytes .ensures
     ∙ ap swappedBytes (c .before .load-low-first .ensures)
-    ∙ swapped-first (c .before .before .before .args .bytes .now) (λ i. c .before .before .shared-slice-known .given i .fits)
+    ∙ swapped-first (c .before .before .before .args .bytes .now)
+    (λ i. c .before .before .shared-slice-known .given i .fits)
 
 pub first-word-spec : {M : Type 1} → statement M
 first-word-spec = tie.close (tie.spec load-low-first-requires swap-bytes-requires returns)

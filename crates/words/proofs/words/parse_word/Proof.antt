@@ -25,7 +25,8 @@ returns-2 c =
     let v = c .before .first-word .ensures in
     let same : eqb (wordKind (firstWord left)) kind ≡ true = eq-eqb _ _ (sym (ap wordKind v) ∙ c .if2 .taken) in
     accepted-answer _ _
-    (sym (cond-false (ltb (length left) 4) 7 _ (le-ltb _ _ (c .before .before .if1 .left)) (cond-false (not (eqb (wordKind (firstWord left)) kind)) 8 _ (ap not same) refl)))
+    (sym (cond-false (ltb (length left) 4) 7 _ (le-ltb _ _ (c .before .before .if1 .left))
+    (cond-false (not (eqb (wordKind (firstWord left)) kind)) 8 _ (ap not same) refl)))
     (λ t. wordPayload (v t) ∷ [])
 
 returns-3 : tie.Need-returns-3
@@ -35,7 +36,8 @@ returns-3 c =
     let v = c .before .first-word .ensures in
     let other : eqb (wordKind (firstWord left)) kind ≡ false = ne-eqb _ _ (λ e. c .if2 .left (ap wordKind v ∙ e)) in
     refused-answer _ _
-    (cond-false (ltb (length left) 4) 7 _ (le-ltb _ _ (c .before .before .if1 .left)) (cond-true (not (eqb (wordKind (firstWord left)) kind)) 8 _ (ap not other)))
+    (cond-false (ltb (length left) 4) 7 _ (le-ltb _ _ (c .before .before .if1 .left))
+    (cond-true (not (eqb (wordKind (firstWord left)) kind)) 8 _ (ap not other)))
     (λ e. omega (arith, e))
 
 pub parse-word-spec : {M : Type 1} → statement M

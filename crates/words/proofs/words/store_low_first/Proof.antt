@@ -72,7 +72,9 @@ add-out-3 : tie.Need-add-out-3
 add-out-3 c = search needs
 
 slice-write-out-4 : tie.Need-slice-write-out-4
-slice-write-out-4 c = lt-length-set (set (set (out c) (at c) (first c)) (at c + 1) (second c)) (at c + 2) (third c) (twice c 3 (inside c 3 (lit< tt)))
+slice-write-out-4 c =
+    lt-length-set (set (set (out c) (at c) (first c)) (at c + 1) (second c)) (at c + 2) (third c)
+    (twice c 3 (inside c 3 (lit< tt)))
 
 same-length : tie.Need-same-length
 same-length c = search needs

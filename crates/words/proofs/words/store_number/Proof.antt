@@ -16,8 +16,16 @@ store-word-requires : tie.Need-store-word-requires
 store-word-requires c κs =
     let start = c .before .before .before in
     let z = start .args .z in
-    let read = toZ-ofZ (start .fits .z) in
-    (start .pre .0, omega (arith, c .before .complement-of .ensures ∙ ap complement read, complement-small z (start .pre .1)), start .pre .2)
+    let read = toZ-ofZ (start .fits .z) in (
+      start .pre .0,
+      omega (
+        arith,
+        c .before .complement-of .ensures
+            ∙ ap complement read,
+        complement-small z (start .pre .1),
+      ),
+      start .pre .2,
+    )
 
 same-length : tie.Need-same-length
 same-length c = search needs
@@ -27,7 +35,9 @@ returns c =
     let start = c .before .before .before .before .before .before in
     let read = toZ-ofZ (start .fits .z) in
     c .before .before .store-word .ensures
-    ∙ (λ t. sets (start .args .out .now) (start .args .at) (wordBytes (word (start .args .kind) ((c .before .before .before .before .complement-of .ensures ∙ ap complement read) t))))
+    ∙ (λ t. sets (start .args .out .now) (start .args .at)
+    (wordBytes (word (start .args .kind)
+    ((c .before .before .before .before .complement-of .ensures ∙ ap complement read) t))))
 
 pub store-number-spec : {M : Type 1} → statement M
 store-number-spec =

@@ -29,7 +29,9 @@ returns c =
     let s = c .before .before .before .before .before .before in
     let v = word (s .args .kind) (s .args .payload) in
     c .before .before .store-low-first .ensures
-    ∙ ap (sets (s .args .out .now) (s .args .at)) (ap lowBytes (c .before .before .before .before .swap-bytes .ensures) ∙ low-swapped v (omega (arith, s .pre .0, s .pre .1)))
+    ∙ ap (sets (s .args .out .now) (s .args .at))
+    (ap lowBytes (c .before .before .before .before .swap-bytes .ensures)
+    ∙ low-swapped v (omega (arith, s .pre .0, s .pre .1)))
 
 pub store-word-spec : {M : Type 1} → statement M
 store-word-spec =

@@ -27,7 +27,8 @@ cast-store-word : tie.Need-cast-store-word
 cast-store-word c = omega (arith, size (c .before) .narrow)
 
 store-word-requires : tie.Need-store-word-requires
-store-word-requires c κs = let s = c .before .before in (lit< tt, omega (arith, size s .narrow), omega (arith, s .pre .2))
+store-word-requires c κs =
+    let s = c .before .before in (lit< tt, omega (arith, size s .narrow), omega (arith, s .pre .2))
 
 cast-store-word-2 : tie.Need-cast-store-word-2
 cast-store-word-2 c = omega (arith, size (c .before .before .before .before .before) .low)
@@ -35,8 +36,12 @@ cast-store-word-2 c = omega (arith, size (c .before .before .before .before .bef
 store-word-requires-2 : tie.Need-store-word-requires-2
 store-word-requires-2 c κs =
     let s = c .before .before .before .before .before .before in
-    let first = ap length (c .before .before .before .store-word .ensures) in
-    (lit< tt, omega (arith, size s .low), omega (arith, s .pre .2, first, length-sets (s .args .out .now) 0 (wordBytes (word widthKind (s .args .w)))))
+    let first = ap length (c .before .before .before .store-word .ensures) in (
+      lit< tt,
+      omega (arith, size s .low),
+      omega
+          (arith, s .pre .2, first, length-sets (s .args .out .now) 0 (wordBytes (word widthKind (s .args .w)))),
+    )
 
 store-points-requires : tie.Need-store-points-requires
 store-points-requires c κs = search needs
@@ -62,7 +67,8 @@ returns c =
     let s = first .before .before .before in
     let n = points (s .args .w) (s .args .h) in
     let points = runs n (λ i. pointBytes (s .args .net .now) (pointStride * i)) in
-    let sides = second .store-word2 .ensures ∙ (λ t. sets (first .store-word .ensures t) 4 (wordBytes (word heightKind (s .args .h)))) in
+    let sides = second .store-word2 .ensures
+    ∙ (λ t. sets (first .store-word .ensures t) 4 (wordBytes (word heightKind (s .args .h)))) in
     let stored = body .store-points .ensures ∙ (λ t. sets (sides t) headSize points) in
     third .store-word3 .ensures
     ∙ (λ t. sets (stored t) (headSize + pointSize * n) (wordBytes (word endKind 0)))

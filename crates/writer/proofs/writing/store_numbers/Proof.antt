@@ -54,7 +54,8 @@ module _ (c : tie.After-z) where
   small : (i : ℕ) → i < from + 3 → {u : ℤ} → u ≡ number net i → natAbs u ≤ 16777216
   small i h e =
       subst (λ (v : ℤ). natAbs v ≤ 16777216) (sym e)
-      (in-range net (c .before .before .before .before .pre .2) i (omega (arith, h, c .before .before .before .before .pre .0)))
+      (in-range net (c .before .before .before .before .pre .2) i
+      (omega (arith, h, c .before .before .before .before .pre .0)))
 
   room : at + pointSize ≤ length out
   room = c .before .before .before .before .pre .1
@@ -71,7 +72,8 @@ module _ (c : tie.After-store-number2) where
   abbrev v : tie.After-store-number
   v = c .before .before .before .before
 
-  two : c .store-number2 .last .1 .1 .1 .0 ≡ sets (sets (out (w v)) (at (w v)) (numberBytes xKind (x (w v)))) (at (w v) + 4) (numberBytes yKind (y (w v)))
+  two : c .store-number2 .last .1 .1 .1 .0
+      ≡ sets (sets (out (w v)) (at (w v)) (numberBytes xKind (x (w v)))) (at (w v) + 4) (numberBytes yKind (y (w v)))
   two = c .store-number2 .ensures ∙ (λ t. sets (one v t) (at (w v) + 4) (numberBytes yKind (read-y (w v) t)))
 
 mul-x : tie.Need-mul-x
@@ -99,7 +101,8 @@ shared-slice-copy-out-z : tie.Need-shared-slice-copy-out-z
 shared-slice-copy-out-z c = search needs
 
 store-number-requires : tie.Need-store-number-requires
-store-number-requires c κs = let k = c .before in (lit< tt, small k (from k) (omega arith) (read-x k), omega (arith, room k))
+store-number-requires c κs =
+    let k = c .before in (lit< tt, small k (from k) (omega arith) (read-x k), omega (arith, room k))
 
 add-store-number : tie.Need-add-store-number
 add-store-number c = search needs
@@ -107,8 +110,12 @@ add-store-number c = search needs
 store-number-requires-2 : tie.Need-store-number-requires-2
 store-number-requires-2 c κs =
     let v = c .before .before .before in
-    let k = w v in
-    (lit< tt, small k (from k + 1) (omega arith) (read-y k), omega (arith, room k, ap length (one v), length-sets (out k) (at k) (numberBytes xKind (x k))))
+    let k = w v in (
+      lit< tt,
+      small k (from k + 1) (omega arith) (read-y k),
+      omega
+          (arith, room k, ap length (one v), length-sets (out k) (at k) (numberBytes xKind (x k))),
+    )
 
 add-store-number-2 : tie.Need-add-store-number-2
 add-store-number-2 c = search needs
@@ -138,7 +145,8 @@ returns c =
     let k = w (v u) in
     c .before .before .store-number3 .ensures
     ∙ (λ t. sets (two u t) (at k + 8) (numberBytes zKind (read-z k t)))
-    ∙ words-stored (out k) (at k) (word xKind (complement (x k))) (word yKind (complement (y k))) (word zKind (complement (z k)))
+    ∙ words-stored (out k) (at k) (word xKind (complement (x k))) (word yKind (complement (y k)))
+    (word zKind (complement (z k)))
 
 pub store-numbers-spec : {M : Type 1} → statement M
 store-numbers-spec =

@@ -14,7 +14,8 @@ use Rattle.writer.proofs.writing.store_points.Statement.{statement}
 use Rattle.writer.proofs.writing.store_points.Tie as tie
 
 abbrev Inv-loop : tie.InvT-loop
-Inv-loop net n out₀ i₀ out i = (i ≤ n) × (length out ≡ length out₀) × (out ≡ sets out₀ headSize (runs i (λ j. pointBytes net (pointStride * j))))
+Inv-loop net n out₀ i₀ out i =
+    (i ≤ n) × (length out ≡ length out₀) × (out ≡ sets out₀ headSize (runs i (λ j. pointBytes net (pointStride * j))))
 
 abbrev μ-loop : tie.MeasureT-loop
 μ-loop net n out₀ i₀ out i = n - i
@@ -63,7 +64,9 @@ returns : tie.Need-returns Inv-loop μ-loop
 returns c =
     let start = c .before .before .before in
     let all : c .before .loop .i ≡ start .args .n = omega arith in
-    c .before .loop .inv .2 ∙ ap (λ (n : ℕ). sets (start .args .out .now) headSize (runs n (λ j. pointBytes (start .args .net .now) (pointStride * j)))) all
+    c .before .loop .inv .2 ∙ ap
+    (λ (n : ℕ). sets (start .args .out .now) headSize
+    (runs n (λ j. pointBytes (start .args .net .now) (pointStride * j)))) all
 
 pub store-points-spec : {M : Type 1} → statement M
 store-points-spec =

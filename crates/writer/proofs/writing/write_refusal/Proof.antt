@@ -24,7 +24,8 @@ module _ (c : tie.Else2) where
   abbrev at : tie.Else1
   at = c .before .before
 
-  long : shortNet (at .before .before .args .net .now) (at .before .before .args .w) (at .before .before .args .h) ≡ false
+  long : shortNet (at .before .before .args .net .now) (at .before .before .args .w) (at .before .before .args .h)
+      ≡ false
   long = sym (c .before .short-net .ensures) ∙ c .if2 .left
 
   abbrev start : tie.Start
@@ -58,7 +59,8 @@ short-net-requires : tie.Need-short-net-requires
 short-net-requires c κs = size c
 
 returns-2 : tie.Need-returns-2
-returns-2 c = cond-false _ 1 _ (size (c .before .before)) (cond-true _ 2 _ (sym (c .before .short-net .ensures) ∙ c .if2 .taken))
+returns-2 c =
+    cond-false _ 1 _ (size (c .before .before)) (cond-true _ 2 _ (sym (c .before .short-net .ensures) ∙ c .if2 .taken))
 
 returns-3 : tie.Need-returns-3
 returns-3 c = past (c .before) (cond-true _ 5 _ (sym (or-yes (c .before .before .before .before .before .args .short) _ (c .if3 .taken))))

@@ -88,19 +88,25 @@ same-length c = search needs
 returns : tie.Need-returns
 returns c =
     let k = c .before .before .before .before .before .before in (
-      accepted-answer (writeRefusal (net k) (w k) (h k) (short k)) (fileSize (w k) (h k) ∷ []) (none k) (ap (λ (n : ℕ). n ∷ []) (c .file-size .ensures)),
+      accepted-answer (writeRefusal (net k) (w k) (h k) (short k)) (fileSize (w k) (h k) ∷ []) (none k)
+          (ap (λ (n : ℕ). n ∷ []) (c .file-size .ensures)),
       c .before .before .before .store-file .ensures
-          ∙ ap (λ (l : List ℕ). over l (out k)) (ap (λ (l : List ℤ). netFile l (w k) (h k)) (part k) ∙ cut-file (net k) (w k) (h k))
-          ∙ when-accepted (writeRefusal (net k) (w k) (h k) (short k)) (over (netFile (net k) (w k) (h k)) (out k)) (out k) (none k),
+          ∙ ap (λ (l : List ℕ). over l (out k))
+          (ap (λ (l : List ℤ). netFile l (w k) (h k)) (part k) ∙ cut-file (net k) (w k) (h k))
+          ∙ when-accepted (writeRefusal (net k) (w k) (h k) (short k)) (over (netFile (net k) (w k) (h k)) (out k))
+          (out k) (none k),
     )
 
 returns-2 : tie.Need-returns-2
 returns-2 c =
     let s = c .before .before .before in
     let e = c .before .write-refusal .ensures in
-    let r = writeRefusal (s .args .net .now) (s .args .w) (s .args .h) (s .args .short || noRoom (s .args .w) (s .args .h) (length (s .args .out .now))) in (
+    let r =
+    writeRefusal (s .args .net .now) (s .args .w) (s .args .h)
+    (s .args .short || noRoom (s .args .w) (s .args .h) (length (s .args .out .now))) in (
       refused-answer r (fileSize (s .args .w) (s .args .h) ∷ []) e (c .if1 .left),
-      when-refused r (over (netFile (s .args .net .now) (s .args .w) (s .args .h)) (s .args .out .now)) (s .args .out .now) (λ z. c .if1 .left (e ∙ z)),
+      when-refused r (over (netFile (s .args .net .now) (s .args .w) (s .args .h)) (s .args .out .now))
+          (s .args .out .now) (λ z. c .if1 .left (e ∙ z)),
     )
 
 pub write-with-spec : {M : Type 1} → statement M
