@@ -50,7 +50,8 @@ fn refine_checked(
     refined: &mut [i32],
 ) -> ListAnswer
     requires { ⌜ readAnswer (now file) (now net) ≡ (0, w ∷ h ∷ []) ⌝ }
-    ensures { λ r. ⌜ RefineFileContract (now (file .entry)) (now (net .entry)) (now (refined .entry)) r (now (net .exit)) (now (refined .exit)) ⌝ }
+    ensures { λ r. ⌜ RefineFileContract (now (file .entry)) (now (net .entry)) (now (refined .entry)) r
+        (now (net .exit)) (now (refined .exit)) ⌝ }
 {
     let refusal = step_refusal(w, h, refined.len());
     if refusal != 0 {
@@ -65,7 +66,8 @@ fn refine_checked(
 // The file's numbers over the front of `net`, and the net that one refinement makes of them over the front of
 // `refined`; or the first fault of reading and then of refining, which changes neither. No preconditions.
 pub fn refine_file(file: &[u8], net: &mut [i32], refined: &mut [i32]) -> ListAnswer
-    ensures { λ r. ⌜ RefineFileContract (now (file .entry)) (now (net .entry)) (now (refined .entry)) r (now (net .exit)) (now (refined .exit)) ⌝ }
+    ensures { λ r. ⌜ RefineFileContract (now (file .entry)) (now (net .entry)) (now (refined .entry)) r
+        (now (net .exit)) (now (refined .exit)) ⌝ }
 {
     let found = check_file(file, false, net.len());
     match found {
@@ -78,7 +80,8 @@ pub fn refine_file(file: &[u8], net: &mut [i32], refined: &mut [i32]) -> ListAns
 // buffers are held to document 01's sizes by the precondition.
 pub fn refine_input(input: &[u8], count: usize, net: &mut [i32], refined: &mut [i32]) -> ListAnswer
     requires { ⌜ Buffers (now input) count (now net) (now refined) ⌝ }
-    ensures { λ r. ⌜ RefineFileContract (take count (now (input .entry))) (now (net .entry)) (now (refined .entry)) r (now (net .exit)) (now (refined .exit)) ⌝ }
+    ensures { λ r. ⌜ RefineFileContract (take count (now (input .entry))) (now (net .entry)) (now (refined .entry)) r
+        (now (net .exit)) (now (refined .exit)) ⌝ }
 {
     refine_file(&input[..count], net, refined)
 }

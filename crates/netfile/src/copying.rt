@@ -9,13 +9,11 @@ ghost use mathlib.Core.Path.{_≡_};
 ghost use mathlib.Core.List.{[], _∷_};
 ghost use mathlib.Core.Bool.{false, cond};
 ghost use lib.Dec.{ltb};
-ghost use lib.ListN.{take};
 ghost use Rattle.net.specs.Net.{numbers};
-ghost use Rattle.net.specs.Refusals.{badSize, outputAfter};
-ghost use Rattle.words.specs.NetFile.{netFile};
+ghost use Rattle.net.specs.Refusals.{badSize};
 ghost use Rattle.words.specs.Answers.{answer};
 ghost use Rattle.reader.specs.Answers.{readOutcome};
-ghost use Rattle.netfile.specs.Answers.{copyRefusal};
+ghost use Rattle.netfile.specs.Answers.{copyRefusal, copyOutput, copyBack};
 
 // Whether a net of this size does not fit `room` numbers; a bad size is refused before that counts.
 fn too_short_for(w: usize, h: usize, room: usize) -> bool
@@ -36,9 +34,10 @@ pub fn copy_through_file(
     out: &mut [u8],
     back: &mut [i32],
 ) -> ReadAnswer
-    ensures { λ r. ⌜ readOutcome r ≡ answer (copyRefusal (now (net .entry)) w h (now (out .entry)) (now (back .entry))) (w ∷ h ∷ []) ⌝ }
-    ensures { λ r. ⌜ now (out .exit) ≡ outputAfter (copyRefusal (now (net .entry)) w h (now (out .entry)) (now (back .entry))) (netFile (now (net .entry)) w h) (now (out .entry)) ⌝ }
-    ensures { λ r. ⌜ now (back .exit) ≡ outputAfter (copyRefusal (now (net .entry)) w h (now (out .entry)) (now (back .entry))) (take (numbers w h) (now (net .entry))) (now (back .entry)) ⌝ }
+    ensures { λ r. ⌜ readOutcome r
+        ≡ answer (copyRefusal (now (net .entry)) w h (now (out .entry)) (now (back .entry))) (w ∷ h ∷ []) ⌝ }
+    ensures { λ r. ⌜ now (out .exit) ≡ copyOutput (now (net .entry)) w h (now (out .entry)) (now (back .entry)) ⌝ }
+    ensures { λ r. ⌜ now (back .exit) ≡ copyBack (now (net .entry)) w h (now (out .entry)) (now (back .entry)) ⌝ }
 {
     let short = too_short_for(w, h, back.len());
     let written = write_with(net, w, h, short, out);

@@ -99,7 +99,8 @@ pub fn place_refusal(net: &[i32], w: usize, h: usize, p: usize, q: usize) -> u32
 // Shares a ≥ b ≥ d of the corners p, q, t, with document 01's A, B and G. For `put_in_order`.
 fn with_gaps(p: usize, q: usize, t: usize, ahead: bool, a: usize, b: usize, d: usize) -> Ordered
     requires { ⌜ (a ≤ 1024) × (b ≤ a) × (d ≤ b) ⌝ }
-    ensures { λ r. ⌜ (r .p ≡ p) × (r .q ≡ q) × (r .t ≡ t) × (r .ahead ≡ ahead) × (r .a ≡ a - b) × (r .b ≡ 2 * (b - d)) × (r .g ≡ 3 * d) ⌝ }
+    ensures { λ r. ⌜ (r .p ≡ p) × (r .q ≡ q) × (r .t ≡ t) × (r .ahead ≡ ahead) × (r .a ≡ a - b) × (r .b ≡ 2 * (b - d))
+        × (r .g ≡ 3 * d) ⌝ }
 {
     Ordered {
         p,
@@ -115,7 +116,8 @@ fn with_gaps(p: usize, q: usize, t: usize, ahead: bool, a: usize, b: usize, d: u
 // The shares of corners 1, 2, 3, put in order. For `surface`.
 pub fn put_in_order(a: usize, b: usize, d: usize) -> Ordered
     requires { ⌜ (a ≤ 1024) × (b ≤ 1024) × (d ≤ 1024) ⌝ }
-    ensures { λ r. ⌜ InOrder (orderOf (shares a b d)) (shares a b d) (r .p) (r .q) (r .t) (r .ahead) (r .a) (r .b) (r .g) ⌝ }
+    ensures { λ r. ⌜ InOrder (orderOf (shares a b d)) (shares a b d) (r .p) (r .q) (r .t) (r .ahead) (r .a) (r .b)
+        (r .g) ⌝ }
 {
     if b <= a {
         if d <= b {

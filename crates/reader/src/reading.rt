@@ -28,7 +28,9 @@ ghost use Rattle.reader.specs.Answers.{readOutcome, headAnswer, readAnsw
 
 // A side's word: its payload, or 7, 8 or 1.
 fn parse_side(left: &[u8], kind: u32) -> Parsed
-    ensures { λ r. ⌜ wordOutcome r ≡ answer (firstFault (sideFaults (now (left .entry)) kind)) (wordPayload (firstWord (now (left .entry))) ∷ []) ⌝ }
+    ensures { λ r. ⌜ wordOutcome r
+        ≡ answer (firstFault (sideFaults (now (left .entry)) kind))
+        (wordPayload (firstWord (now (left .entry))) ∷ []) ⌝ }
 {
     let parsed = parse_word(left, kind);
     match parsed {
@@ -190,7 +192,8 @@ fn first_point(bytes: &[u8]) -> [i32; 3]
 // The numbers of n control points over the front of the lent net.
 fn load_points(file: &[u8], n: usize, net: &mut [i32])
     requires { ⌜ (pointPlace n ≤ length (now file)) × (pointStride * n ≤ length (now net)) ⌝ }
-    ensures { λ r. ⌜ now (net .exit) ≡ over (runs n (λ i. firstPoint (fromPoint (now (file .entry)) i))) (now (net .entry)) ⌝ }
+    ensures { λ r. ⌜ now (net .exit)
+        ≡ over (runs n (λ i. firstPoint (fromPoint (now (file .entry)) i))) (now (net .entry)) ⌝ }
 {
     let mut i = 0;
     while i < n {
@@ -224,8 +227,11 @@ pub fn check_file(file: &[u8], short: bool, room: usize) -> ReadAnswer
 // The same as `read`, for the crates above: `short` is whether another output that they were lent is too short, which
 // is 5 too.
 pub fn read_with(file: &[u8], short: bool, net: &mut [i32]) -> ReadAnswer
-    ensures { λ r. ⌜ readOutcome r ≡ readAnswerWith (now (file .entry)) (short || shortFor (now (file .entry)) (length (now (net .entry)))) ⌝ }
-    ensures { λ r. ⌜ now (net .exit) ≡ readNetWith (now (file .entry)) (short || shortFor (now (file .entry)) (length (now (net .entry)))) (now (net .entry)) ⌝ }
+    ensures { λ r. ⌜ readOutcome r
+        ≡ readAnswerWith (now (file .entry)) (short || shortFor (now (file .entry)) (length (now (net .entry)))) ⌝ }
+    ensures { λ r. ⌜ now (net .exit)
+        ≡ readNetWith (now (file .entry)) (short || shortFor (now (file .entry)) (length (now (net .entry))))
+        (now (net .entry)) ⌝ }
 {
     let found = check_file(file, short, net.len());
     match found {

@@ -8,6 +8,7 @@ use lib.ListN.{length, replicate}
 use Rattle.exact.specs.Filling.{over, runs}
 use Rattle.net.specs.Net.{numbers, controlPoint, controlTriangle, grid, squares}
 use Rattle.net.specs.Refusals.{netBeyond, accepted, outputAfter}
+use Rattle.steps.specs.Steps.{UnchangedFrom}
 use Rattle.steps.specs.RefinedNet.{stored, refinedNet, scratchNeed}
 use Rattle.refine.specs.Refusals.{tooShort, refineRefusal}
 use Rattle.refine.specs.declared.answers.RefineAnswer.{RefineAnswer}
@@ -33,6 +34,11 @@ refineOutput net w h k out scratch = outputAfter (refusalOf net w h k out scratc
 -- none where k is below 2 or the call is refused
 abbrev pub freeScratch : ℕ → ℕ → ℕ → ℕ → ℕ
 freeScratch refusal k w h = cond (accepted refusal) (scratchNeed k w h) 0
+
+-- the scratch before the call and after it
+abbrev pub RefineScratch : List ℤ → ℕ → ℕ → ℕ → List ℤ → List ℤ → List ℤ → Type 0
+RefineScratch net w h k out scratch after =
+    UnchangedFrom (freeScratch (refusalOf net w h k out scratch) k w h) scratch after
 
 -- worked cases: outcomes of answers; the scratch that two steps of 2 by 2 leave free, a refusal and one step; the
 -- lengths of the output and the scratch that two steps need, not exchanged; and, of the net of 2 by 3 whose numbers are

@@ -4,9 +4,8 @@ use crate::depth::net_refusal;
 use crate::depth::size_refusal;
 use steps::refine_steps;
 ghost use mathlib.Core.Path.{_≡_};
-ghost use Rattle.steps.specs.Steps.{UnchangedFrom};
 ghost use Rattle.refine.specs.Refusals.{tooShort, refineRefusal};
-ghost use Rattle.refine.specs.Answers.{refineOutcome, refusalOf, refineAnswer, refineOutput, freeScratch};
+ghost use Rattle.refine.specs.Answers.{refineOutcome, refineAnswer, refineOutput, RefineScratch};
 
 // The number of the first fault, 1, 4, 2, 5 or 3, or 0 where there is none.
 fn refusal_of(net: &[i32], w: usize, h: usize, k: usize, room: usize, scratch: usize) -> u32
@@ -29,9 +28,12 @@ pub fn refine(
     out: &mut [i32],
     scratch: &mut [i32],
 ) -> RefineAnswer
-    ensures { λ r. ⌜ refineOutcome r ≡ refineAnswer (now (net .entry)) w h k (now (out .entry)) (now (scratch .entry)) ⌝ }
-    ensures { λ r. ⌜ now (out .exit) ≡ refineOutput (now (net .entry)) w h k (now (out .entry)) (now (scratch .entry)) ⌝ }
-    ensures { λ r. ⌜ UnchangedFrom (freeScratch (refusalOf (now (net .entry)) w h k (now (out .entry)) (now (scratch .entry))) k w h) (now (scratch .entry)) (now (scratch .exit)) ⌝ }
+    ensures { λ r. ⌜ refineOutcome r
+        ≡ refineAnswer (now (net .entry)) w h k (now (out .entry)) (now (scratch .entry)) ⌝ }
+    ensures { λ r. ⌜ now (out .exit)
+        ≡ refineOutput (now (net .entry)) w h k (now (out .entry)) (now (scratch .entry)) ⌝ }
+    ensures { λ r. ⌜ RefineScratch (now (net .entry)) w h k (now (out .entry)) (now (scratch .entry))
+        (now (scratch .exit)) ⌝ }
 {
     let refusal = refusal_of(net, w, h, k, out.len(), scratch.len());
     if refusal == 0 {

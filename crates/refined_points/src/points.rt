@@ -61,7 +61,8 @@ pub fn refined_point_with(
     out: &mut [i32],
     scratch: &mut [i32],
 ) -> PointAnswer
-    ensures { λ r. ⌜ RefinedPointContract (now (net .entry)) w h k p q short (now (out .entry)) (now (scratch .entry)) (pointOutcome r) (now (out .exit)) (now (scratch .exit)) ⌝ }
+    ensures { λ r. ⌜ RefinedPointContract (now (net .entry)) w h k p q short (now (out .entry)) (now (scratch .entry))
+        (pointOutcome r) (now (out .exit)) (now (scratch .exit)) ⌝ }
 {
     let refusal = refusal_at(net, w, h, k, p, q, short, out.len(), scratch.len());
     if refusal != 0 {
@@ -86,7 +87,8 @@ pub fn refined_point(
     out: &mut [i32],
     scratch: &mut [i32],
 ) -> PointAnswer
-    ensures { λ r. ⌜ RefinedPointContract (now (net .entry)) w h k p q false (now (out .entry)) (now (scratch .entry)) (pointOutcome r) (now (out .exit)) (now (scratch .exit)) ⌝ }
+    ensures { λ r. ⌜ RefinedPointContract (now (net .entry)) w h k p q false (now (out .entry)) (now (scratch .entry))
+        (pointOutcome r) (now (out .exit)) (now (scratch .exit)) ⌝ }
 {
     refined_point_with(net, w, h, k, p, q, false, out, scratch)
 }

@@ -45,7 +45,8 @@ fn values_at(a: [[i32; 3]; 3], b: [[i32; 3]; 3], x: usize) -> [i32; 6]
 // A control point of the refined vertex: the row that belongs to the control, in each coordinate.
 fn refined_point(row: [u8; 6], a: [[i32; 3]; 3], b: [[i32; 3]; 3]) -> [i32; 3]
     requires { ⌜ goodRow row ≡ true ⌝ }
-    ensures { λ r. ⌜ r ≡ map (λ x. rounded (weightedSum (map pos row) (six (λ k. entry a k x) (λ k. entry b k x))) 12) (0 ∷ 1 ∷ 2 ∷ []) ⌝ }
+    ensures { λ r. ⌜ r ≡ map (λ x. rounded (weightedSum (map pos row) (six (λ k. entry a k x) (λ k. entry b k x))) 12)
+        (0 ∷ 1 ∷ 2 ∷ []) ⌝ }
 {
     let x = refined_number(row, values_at(a, b, 0));
     let y = refined_number(row, values_at(a, b, 1));

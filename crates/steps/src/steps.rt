@@ -18,7 +18,9 @@ ghost use Rattle.steps.specs.Steps.{UnchangedFrom, Depth, StepReady};
 // Row j of the refined grid.
 fn refine_row(net: &[i32], w: usize, h: usize, j: usize, out: &mut [i32])
     requires { ⌜ StepReady (now net) w h (now out) × (j < refinedSide h) ⌝ }
-    ensures { λ r. ⌜ now (out .exit) ≡ sets (now (out .entry)) (stride * (j * refinedSide w)) (rowRun (refinedFields (now (net .entry)) w) (refinedSide w) j) ⌝ }
+    ensures { λ r. ⌜ now (out .exit)
+        ≡ sets (now (out .entry)) (stride * (j * refinedSide w))
+        (rowRun (refinedFields (now (net .entry)) w) (refinedSide w) j) ⌝ }
 {
     let wide = 2 * w - 1;
     let at = STRIDE * (j * wide);
@@ -58,8 +60,10 @@ fn few_steps(net: &[i32], w: usize, h: usize, k: usize, out: &mut [i32])
 
 // The last of k steps, of what the steps before it made of a net of width w and height h.
 fn last_step(net: &[i32], w: usize, h: usize, k: usize, out: &mut [i32])
-    requires { ⌜ (1 ≤ k) × Depth w h k × (numbersAfter (k - 1) w h ≤ length (now net)) × (numbersAfter k w h ≤ length (now out)) ⌝ }
-    ensures { λ r. ⌜ now (out .exit) ≡ over (refinedNet (now (net .entry)) (sideAfter (k - 1) w) (sideAfter (k - 1) h) 1) (now (out .entry)) ⌝ }
+    requires { ⌜ (1 ≤ k) × Depth w h k × (numbersAfter (k - 1) w h ≤ length (now net))
+        × (numbersAfter k w h ≤ length (now out)) ⌝ }
+    ensures { λ r. ⌜ now (out .exit)
+        ≡ over (refinedNet (now (net .entry)) (sideAfter (k - 1) w) (sideAfter (k - 1) h) 1) (now (out .entry)) ⌝ }
 {
     let m = side_after(w, k - 1);
     let n = side_after(h, k - 1);
@@ -69,7 +73,8 @@ fn last_step(net: &[i32], w: usize, h: usize, k: usize, out: &mut [i32])
 // The k times refined net over the front of `out`. The net after k - 1 steps goes into `scratch`, with `out` for its
 // scratch: so the slices change places at each step, and the last one writes `out`.
 pub fn refine_steps(net: &[i32], w: usize, h: usize, k: usize, out: &mut [i32], scratch: &mut [i32])
-    requires { ⌜ Depth w h k × (numbers w h ≤ length (now net)) × (numbersAfter k w h ≤ length (now out)) × (scratchNeed k w h ≤ length (now scratch)) ⌝ }
+    requires { ⌜ Depth w h k × (numbers w h ≤ length (now net)) × (numbersAfter k w h ≤ length (now out))
+        × (scratchNeed k w h ≤ length (now scratch)) ⌝ }
     ensures { λ r. ⌜ now (out .exit) ≡ over (refinedNet (now (net .entry)) w h k) (now (out .entry)) ⌝ }
     ensures { λ r. ⌜ UnchangedFrom (scratchNeed k w h) (now (scratch .entry)) (now (scratch .exit)) ⌝ }
 {

@@ -24,8 +24,10 @@ fn rule_of_kind(
     m: usize,
     n: usize,
 ) -> [[i32; 3]; 3]
-    requires { ⌜ (kind < 4) × (start w (vertexAt i j) + stride ≤ length (now net)) × (start w (vertexAt m n) + stride ≤ length (now net)) ⌝ }
-    ensures { λ r. ⌜ r ≡ refinedTriangle weights kind (controlTriangle (now (net .entry)) w (vertexAt i j)) (controlTriangle (now (net .entry)) w (vertexAt m n)) ⌝ }
+    requires { ⌜ (kind < 4) × (start w (vertexAt i j) + stride ≤ length (now net))
+        × (start w (vertexAt m n) + stride ≤ length (now net)) ⌝ }
+    ensures { λ r. ⌜ r ≡ refinedTriangle weights kind (controlTriangle (now (net .entry)) w (vertexAt i j))
+        (controlTriangle (now (net .entry)) w (vertexAt m n)) ⌝ }
 {
     let a = load(net, w, i, j);
     let b = load(net, w, m, n);

@@ -6,14 +6,17 @@ use mathlib.Core.List.{List}
 use Prim.Native.Nat.{ℕ, _-_}
 use lib.IntN.{ℤ, pos}
 use lib.ListN.{replicate, set}
-use Rattle.net.specs.Net.{one, two, three, Triangle, triangleAt, corner, numbers, vertexNumbers}
+use Rattle.net.specs.Net.{one, two, three, Vertex, Triangle, triangleAt, corner, numbers, vertexNumbers}
 use Rattle.net.specs.Refusals.{anyBeyond}
+
+-- whether one of the numbers of three vertices is outside the net range
+abbrev pub verticesBeyond : List ℤ → ℕ → Vertex → Vertex → Vertex → Bool
+verticesBeyond net w a b c =
+    anyBeyond (vertexNumbers net w a) || (anyBeyond (vertexNumbers net w b) || anyBeyond (vertexNumbers net w c))
 
 -- 3: a number of the triangle's nine control points outside the net range
 abbrev pub triangleBeyond : List ℤ → ℕ → Triangle → Bool
-triangleBeyond net w t =
-    anyBeyond (vertexNumbers net w (corner t one))
-    || (anyBeyond (vertexNumbers net w (corner t two)) || anyBeyond (vertexNumbers net w (corner t three)))
+triangleBeyond net w t = verticesBeyond net w (corner t one) (corner t two) (corner t three)
 
 -- worked cases: of nets of 2 by 2 with one number beyond the range: the last, of vertex (1, 1); the first, of vertex
 -- (0, 0); and one of vertex (1, 0) and of vertex (0, 1), which are corners of both triangles

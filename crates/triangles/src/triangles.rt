@@ -3,14 +3,12 @@
 use net::load;
 use net::vertex_beyond;
 ghost use mathlib.Core.Path.{_≡_};
-ghost use mathlib.Core.Bool.{_||_};
 ghost use mathlib.Core.List.{[], _∷_};
 ghost use Prim.Native.Nat.{_+_, _≤_, _<_};
 ghost use lib.ListN.{length, getD};
-ghost use Rattle.net.specs.Net.{one, two, three, vertexAt, triangleAt, start, vertexNumbers, entry, stride};
-ghost use Rattle.net.specs.Refusals.{anyBeyond};
+ghost use Rattle.net.specs.Net.{one, two, three, vertexAt, triangleAt, start, entry, stride};
 ghost use Rattle.triangles.specs.Corners.{InNet, cornerControls, valuesIn, reorderedControls, arranged};
-ghost use Rattle.triangles.specs.Refusals.{triangleBeyond};
+ghost use Rattle.triangles.specs.Refusals.{verticesBeyond, triangleBeyond};
 
 // Whether one of the numbers of three vertices is outside the net range.
 fn vertices_beyond(
@@ -26,7 +24,7 @@ fn vertices_beyond(
     requires { ⌜ start w (vertexAt i1 j1) + stride ≤ length (now net) ⌝ }
     requires { ⌜ start w (vertexAt i2 j2) + stride ≤ length (now net) ⌝ }
     requires { ⌜ start w (vertexAt i3 j3) + stride ≤ length (now net) ⌝ }
-    ensures { λ r. ⌜ r ≡ (anyBeyond (vertexNumbers (now (net .entry)) w (vertexAt i1 j1)) || (anyBeyond (vertexNumbers (now (net .entry)) w (vertexAt i2 j2)) || anyBeyond (vertexNumbers (now (net .entry)) w (vertexAt i3 j3)))) ⌝ }
+    ensures { λ r. ⌜ r ≡ verticesBeyond (now (net .entry)) w (vertexAt i1 j1) (vertexAt i2 j2) (vertexAt i3 j3) ⌝ }
 {
     if vertex_beyond(net, w, i1, j1) {
         return true;

@@ -55,7 +55,8 @@ pub extern "C" fn ups_bezier_net(
     out: &mut [i32],
 ) -> u32
     ensures { λ r. ⌜ r ≡ bezierExport (now (net .entry)) w h i j down (length (now (out .entry))) ⌝ }
-    ensures { λ r. ⌜ now (out .exit) ≡ outputAfter r (bezierNumbers (now (net .entry)) w (exportedTriangle i j down)) (now (out .entry)) ⌝ }
+    ensures { λ r. ⌜ now (out .exit)
+        ≡ outputAfter r (bezierNumbers (now (net .entry)) w (exportedTriangle i j down)) (now (out .entry)) ⌝ }
 {
     if 1 < down {
         if bad_size(w, h) {
@@ -156,7 +157,8 @@ pub extern "C" fn ups_write(
     out: &mut [u8],
     written: &mut [u64],
 ) -> u32
-    ensures { λ r. ⌜ r ≡ writeExport (now (net .entry)) w h (length (now (out .entry))) (length (now (written .entry))) ⌝ }
+    ensures { λ r. ⌜ r ≡ writeExport (now (net .entry)) w h (length (now (out .entry)))
+        (length (now (written .entry))) ⌝ }
     ensures { λ r. ⌜ now (out .exit) ≡ outputAfter r (netFile (now (net .entry)) w h) (now (out .entry)) ⌝ }
     ensures { λ r. ⌜ now (written .exit) ≡ outputAfter r (writtenCount w h) (now (written .entry)) ⌝ }
 {
@@ -222,10 +224,12 @@ pub extern "C" fn ups_refined_point(
     scratch: &mut [i32],
     point: &mut [i32],
 ) -> u32
-    ensures { λ r. ⌜ r ≡ refinedPointExport (now (net .entry)) w h k p q (now (out .entry)) (now (scratch .entry)) (now (point .entry)) ⌝ }
+    ensures { λ r. ⌜ r ≡ refinedPointExport (now (net .entry)) w h k p q (now (out .entry)) (now (scratch .entry))
+        (now (point .entry)) ⌝ }
     ensures { λ r. ⌜ now (out .exit) ≡ outputAfter r (refinedNet (now (net .entry)) w h k) (now (out .entry)) ⌝ }
     ensures { λ r. ⌜ UnchangedFrom (freeScratch r k w h) (now (scratch .entry)) (now (scratch .exit)) ⌝ }
-    ensures { λ r. ⌜ now (point .exit) ≡ outputAfter r (refinedSurfacePoint (now (net .entry)) w h k p q) (now (point .entry)) ⌝ }
+    ensures { λ r. ⌜ now (point .exit)
+        ≡ outputAfter r (refinedSurfacePoint (now (net .entry)) w h k p q) (now (point .entry)) ⌝ }
     ensures { λ r. ⌜ (r ≡ 0 → Claimed (now (net .entry)) w h k p q (r, take 3 (now (point .exit)))) ⌝ }
 {
     let answer = refined_point_with(net, w, h, k, p, q, point.len() < 3, out, scratch);

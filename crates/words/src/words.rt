@@ -46,7 +46,9 @@ fn first_word(bytes: &[u8]) -> u32
 
 // The word that is due, by its kind.
 pub fn parse_word(left: &[u8], kind: u32) -> Parsed
-    ensures { λ r. ⌜ wordOutcome r ≡ answer (firstFault (wordFaults (now (left .entry)) kind)) (wordPayload (firstWord (now (left .entry))) ∷ []) ⌝ }
+    ensures { λ r. ⌜ wordOutcome r
+        ≡ answer (firstFault (wordFaults (now (left .entry)) kind))
+        (wordPayload (firstWord (now (left .entry))) ∷ []) ⌝ }
 {
     if left.len() < 4 {
         return Parsed::Refused(7);

@@ -67,8 +67,10 @@ fn store_numbers(net: &[i32], from: usize, at: usize, out: &mut [u8])
 
 // The words of the first n control points, after two words.
 fn store_points(net: &[i32], n: usize, out: &mut [u8])
-    requires { ⌜ (pointStride * n ≤ length (now net)) × (pointPlace n ≤ length (now out)) × (anyBeyond (now net) ≡ false) ⌝ }
-    ensures { λ r. ⌜ now (out .exit) ≡ sets (now (out .entry)) headSize (runs n (λ i. pointBytes (now (net .entry)) (pointStride * i))) ⌝ }
+    requires { ⌜ (pointStride * n ≤ length (now net)) × (pointPlace n ≤ length (now out))
+        × (anyBeyond (now net) ≡ false) ⌝ }
+    ensures { λ r. ⌜ now (out .exit)
+        ≡ sets (now (out .entry)) headSize (runs n (λ i. pointBytes (now (net .entry)) (pointStride * i))) ⌝ }
 {
     let mut i = 0;
     while i < n {
@@ -79,7 +81,8 @@ fn store_points(net: &[i32], n: usize, out: &mut [u8])
 
 // The whole file.
 fn store_file(net: &[i32], w: usize, h: usize, out: &mut [u8])
-    requires { ⌜ (badSize w h ≡ false) × (numbers w h ≤ length (now net)) × (fileSize w h ≤ length (now out)) × (anyBeyond (now net) ≡ false) ⌝ }
+    requires { ⌜ (badSize w h ≡ false) × (numbers w h ≤ length (now net)) × (fileSize w h ≤ length (now out))
+        × (anyBeyond (now net) ≡ false) ⌝ }
     ensures { λ r. ⌜ now (out .exit) ≡ over (netFile (now (net .entry)) w h) (now (out .entry)) ⌝ }
 {
     let n = 3 * (w * h);
@@ -92,8 +95,11 @@ fn store_file(net: &[i32], w: usize, h: usize, out: &mut [u8])
 // The same as `write`, for the crates above: `short` is whether another output that they were lent is too short, which
 // is 5 too.
 pub fn write_with(net: &[i32], w: usize, h: usize, short: bool, out: &mut [u8]) -> WriteAnswer
-    ensures { λ r. ⌜ writeOutcome r ≡ writeAnswerWith (now (net .entry)) w h (short || noRoom w h (length (now (out .entry)))) ⌝ }
-    ensures { λ r. ⌜ now (out .exit) ≡ writeOutputWith (now (net .entry)) w h (short || noRoom w h (length (now (out .entry)))) (now (out .entry)) ⌝ }
+    ensures { λ r. ⌜ writeOutcome r
+        ≡ writeAnswerWith (now (net .entry)) w h (short || noRoom w h (length (now (out .entry)))) ⌝ }
+    ensures { λ r. ⌜ now (out .exit)
+        ≡ writeOutputWith (now (net .entry)) w h (short || noRoom w h (length (now (out .entry))))
+        (now (out .entry)) ⌝ }
 {
     let refusal = write_refusal(net, w, h, short, out.len());
     if refusal == 0 {
