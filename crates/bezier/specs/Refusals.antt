@@ -5,9 +5,9 @@ use mathlib.Core.List.{List, [], _∷_}
 use Prim.Native.Nat.{ℕ, _-_}
 use lib.Dec.{leb, ltb}
 use lib.IntN.{ℤ, pos}
-use lib.ListN.{replicate, set}
+use lib.ListN.{replicate}
 use Rattle.net.specs.Net.{triangleAt, numbers}
-use Rattle.net.specs.Refusals.{firstFault, badSize, shortNet}
+use Rattle.net.specs.Refusals.{firstFault, badSize, shortNet, zeros, tooLarge, tooFew}
 use Rattle.triangles.specs.Refusals.{triangleBeyond}
 
 -- 6: no such triangle
@@ -27,18 +27,12 @@ bezierRefusal net w h i j down room =
 
 -- worked cases: every fault at once, and then without the one that was found, to a number beyond the range at a vertex
 -- of the down triangle and to none; the last cell of 3 by 2, and a row of cells that it does not have
-abbrev zeros : List ℤ
-zeros = replicate (numbers 2 2) (pos 0)
-
-abbrev tooLarge : List ℤ
-tooLarge = set zeros (numbers 2 2 - 1) (pos 16777217)
-
 order :
-    (bezierRefusal [] 2 1 1 0 true 56 ≡ 1)
-    × (bezierRefusal [] 2 2 1 0 true 56 ≡ 6)
-    × (bezierRefusal [] 2 2 0 0 true 56 ≡ 2)
-    × (bezierRefusal tooLarge 2 2 0 0 true 56 ≡ 5)
-    × (bezierRefusal tooLarge 2 2 0 0 true 57 ≡ 3)
+    (bezierRefusal tooFew 1026 2 1025 0 true 56 ≡ 1)
+    × (bezierRefusal tooFew 2 2 1 0 true 56 ≡ 6)
+    × (bezierRefusal tooFew 2 2 0 0 true 56 ≡ 2)
+    × (bezierRefusal (tooLarge (numbers 2 2 - 1)) 2 2 0 0 true 56 ≡ 5)
+    × (bezierRefusal (tooLarge (numbers 2 2 - 1)) 2 2 0 0 true 57 ≡ 3)
     × (bezierRefusal zeros 2 2 0 0 true 57 ≡ 0)
 order = (refl, refl, refl, refl, refl, refl)
 

@@ -1,10 +1,11 @@
 -- Document 01, "Door corner", the listing program: from the bytes of its input to what it prints.
-use mathlib.Core.Path.{_≡_, refl}
+use mathlib.Core.Path.{_≡_, refl, ap}
 use mathlib.Core.Bool.{cond}
 use mathlib.Core.List.{List, [], _∷_, _++_}
 use Prim.Native.Nat.{ℕ, _≤_}
-use lib.IntN.{ℤ, pos}
-use lib.ListN.{length, take, replicate}
+use native.Mathlib.Omega.{arith}
+use lib.IntN.{ℤ, pos, natAbs}
+use lib.ListN.{length, getD, take, replicate}
 use Rattle.exact.specs.Filling.{runs}
 use Rattle.net.specs.Net.{numbers, squares}
 use Rattle.net.specs.Refusals.{firstFault, accepted, outputAfter, netBeyond, AcceptedNet}
@@ -115,3 +116,25 @@ steps = (refl, refl, refl)
 ready-to-list : ReadyToList (listed.Net 2 2) (replicate (numbers 2 2) (pos 16777216))
 unfolding netBeyond
 ready-to-list = record { size = refl; long = refl; inRange = refl }
+
+-- what the contract and the buffers rule out: of an empty file, another number than 7 and a change of either buffer;
+-- and any other length or count
+refused-otherwise :
+    (RefineFileContract [] (pos 1 ∷ []) (pos 2 ∷ []) (listed.Refused 8) (pos 1 ∷ []) (pos 2 ∷ []) → ⊥)
+    × (RefineFileContract [] (pos 1 ∷ []) (pos 2 ∷ []) (listed.Refused 7) (pos 9 ∷ []) (pos 2 ∷ []) → ⊥)
+    × (RefineFileContract [] (pos 1 ∷ []) (pos 2 ∷ []) (listed.Refused 7) (pos 1 ∷ []) (pos 9 ∷ []) → ⊥)
+refused-otherwise = (
+  (λ c. omega (arith, ap (λ (r : ℕ × List ℕ). r .0) (c .answered))),
+  (λ c. omega (arith, ap (λ (l : List ℤ). natAbs (getD l 0 (pos 0))) (c .netRead))),
+  (λ c. omega (arith, ap (λ (l : List ℤ). natAbs (getD l 0 (pos 0))) (c .netRefined))),
+)
+
+other-buffers : (input : List ℕ) (net : List ℤ) →
+    (Buffers [] 0 net net → ⊥) × (Buffers input 65537 net net → ⊥) × (Buffers input 0 [] net → ⊥)
+    × (Buffers input 0 net [] → ⊥)
+other-buffers input net = (
+  (λ b. omega (arith, b .inputLength)),
+  (λ b. omega (arith, b .inputRead)),
+  (λ b. omega (arith, b .netLength)),
+  (λ b. omega (arith, b .refinedLength)),
+)

@@ -4,7 +4,7 @@ use mathlib.Core.Bool.{Bool, true, false, _||_, cond}
 use mathlib.Core.List.{List, [], _∷_, _++_}
 use Prim.Native.Nat.{ℕ, _-_}
 use lib.Dec.{leb, ltb, eqb}
-use lib.ListN.{length, replicate, take}
+use lib.ListN.{length, replicate, set, take}
 use lib.IntN.{ℤ, pos, negsuc, natAbs}
 use Rattle.exact.specs.Filling.{over}
 use Rattle.net.specs.Net.{vertexAt, numbers, vertexNumbers, squares}
@@ -72,14 +72,27 @@ unfoldable pub vertexPart : List ℤ → ℕ → ℕ → ℕ → ℕ → List �
 vertexPart net w h i j =
     cond (accepted (vertexRefusal net w h i j)) (vertexNumbers net w (vertexAt i j)) []
 
--- worked cases: document 01's examples of 1, 2 and 3, the limits that are accepted, each side too small and too large,
+-- ---- worked cases
+
+-- nets of 2 by 2 for worked cases here and in the crates above: of zeros; of zeros but for one number, which is beyond
+-- the range; and one with a number too few, each beyond the range
+abbrev pub zeros : List ℤ
+zeros = replicate (numbers 2 2) (pos 0)
+
+abbrev pub tooLarge : ℕ → List ℤ
+tooLarge n = set zeros n (pos 16777217)
+
+abbrev pub tooFew : List ℤ
+tooFew = replicate (numbers 2 2 - 1) (pos 16777217)
+
+-- document 01's examples of 1, 2 and 3, the limits that are accepted, each side too small and too large,
 -- a missing vertex of a short net, the last vertex of 3 by 2 and a row that it does not have, an output that is refused
 -- and one that is written, and a part
 examples :
-    (vertexRefusal [] 1 2 0 0 ≡ 1)
+    (vertexRefusal [] 1 2 1 0 ≡ 1)
     × (vertexRefusal (replicate 35 (pos 0)) 2 2 1 1 ≡ 2)
     × (vertexRefusal (replicate 35 (pos 0)) 2 2 2 1 ≡ 6)
-    × (vertexRefusal (replicate (numbers 2 2) (pos 0)) 2 2 1 1 ≡ 0)
+    × (vertexRefusal zeros 2 2 1 1 ≡ 0)
     × (vertexRefusal (replicate (numbers 3 2) (pos 0)) 3 2 2 1 ≡ 0)
     × (vertexRefusal (replicate (numbers 3 2) (pos 0)) 3 2 1 2 ≡ 6)
 examples = (refl, refl, refl, refl, refl, refl)

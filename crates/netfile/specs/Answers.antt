@@ -8,7 +8,7 @@ use lib.IntN.{ℤ, pos}
 use lib.ListN.{length, take, replicate}
 use Rattle.exact.specs.Filling.{over, runs}
 use Rattle.net.specs.Net.{numbers, squares}
-use Rattle.net.specs.Refusals.{netBeyond, outputAfter}
+use Rattle.net.specs.Refusals.{netBeyond, outputAfter, zeros}
 use Rattle.words.specs.NetFile.{wordBytes, pointBytes, netFile}
 use Rattle.writer.specs.Refusals.{noRoom, writeRefusal}
 
@@ -26,9 +26,6 @@ copyBack net w h out back = outputAfter (copyRefusal net w h out back) (take (nu
 -- worked cases: of a net of 2 by 2, with a byte too few for the file, with a number too few to read into, and with
 -- neither; of the net of 2 by 3 whose numbers are the squares, copied with room for a byte and a number more, and
 -- refused
-abbrev zeros : List ℤ
-zeros = replicate (numbers 2 2) (pos 0)
-
 examples :
     (copyRefusal zeros 2 2 (replicate 155 0) zeros ≡ 5)
     × (copyRefusal zeros 2 2 (replicate 156 0) (replicate (numbers 2 2 - 1) (pos 0)) ≡ 5)

@@ -4,10 +4,9 @@ use mathlib.Core.Bool.{Bool, true, false, _||_}
 use mathlib.Core.List.{List, [], _∷_, _++_}
 use Prim.Native.Nat.{ℕ, _-_}
 use lib.Dec.{ltb}
-use lib.IntN.{ℤ, pos}
-use lib.ListN.{replicate}
+use lib.IntN.{ℤ}
 use Rattle.net.specs.Net.{numbers}
-use Rattle.net.specs.Refusals.{Fault, firstFault, badSize, shortNet, netBeyond}
+use Rattle.net.specs.Refusals.{Fault, firstFault, badSize, shortNet, netBeyond, zeros, tooLarge, tooFew}
 use Rattle.subdivision.specs.Refinement.{sideAfter}
 use Rattle.steps.specs.RefinedNet.{numbersAfter, scratchNeed}
 
@@ -44,15 +43,12 @@ lengths :
     × (tooShort 2 2 1 (numbers 3 3) 0 ≡ false)
 lengths = (refl, refl, refl, refl)
 
-abbrev tooLarge : List ℤ
-tooLarge = pos 16777217 ∷ replicate (numbers 2 2 - 1) (pos 0)
-
 order :
-    (refineRefusal [] 1 2 7 true ≡ 1)
-    × (refineRefusal [] 2 2 7 true ≡ 4)
-    × (refineRefusal [] 2 2 0 true ≡ 2)
-    × (refineRefusal tooLarge 2 2 0 true ≡ 5)
-    × (refineRefusal tooLarge 2 2 0 false ≡ 3)
-    × (refineRefusal (replicate (numbers 2 2) (pos 0)) 2 2 0 false ≡ 0)
+    (refineRefusal tooFew 1026 2 7 true ≡ 1)
+    × (refineRefusal tooFew 2 2 7 true ≡ 4)
+    × (refineRefusal tooFew 2 2 0 true ≡ 2)
+    × (refineRefusal (tooLarge 0) 2 2 0 true ≡ 5)
+    × (refineRefusal (tooLarge 0) 2 2 0 false ≡ 3)
+    × (refineRefusal zeros 2 2 0 false ≡ 0)
 unfolding netBeyond
 order = (refl, refl, refl, refl, refl, refl)

@@ -1,6 +1,6 @@
 -- Demand 3 of the running code, as one claim from the starting net to the answered point. `refined-points` in
 -- proofs/RefinedPoints.antt proves it of the two calls' definitions, which `refine` and `surface_point` are proved to
--- meet; and `refined_point`, which runs both, has it in its contract.
+-- meet; and `refined_point_with`, which every call that does both goes through, has it in its contract.
 use mathlib.Core.Path.{_≡_}
 use mathlib.Core.List.{List}
 use Prim.Native.Nat.{ℕ, _<_}

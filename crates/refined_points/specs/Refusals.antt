@@ -2,11 +2,9 @@
 use mathlib.Core.Path.{_≡_, refl}
 use mathlib.Core.Bool.{Bool, true, false}
 use mathlib.Core.List.{List, [], _∷_, _++_}
-use Prim.Native.Nat.{ℕ, _-_}
-use lib.IntN.{ℤ, pos}
-use lib.ListN.{replicate}
-use Rattle.net.specs.Net.{numbers}
-use Rattle.net.specs.Refusals.{firstFault, netBeyond}
+use Prim.Native.Nat.{ℕ}
+use lib.IntN.{ℤ}
+use Rattle.net.specs.Refusals.{firstFault, netBeyond, zeros, tooLarge, tooFew}
 use Rattle.places.specs.Refusals.{noPlace}
 use Rattle.subdivision.specs.Refinement.{sideAfter}
 use Rattle.refine.specs.Refusals.{sizeFaults, netFaults}
@@ -21,17 +19,14 @@ refinedPointRefusal net w h k p q short =
 
 -- worked cases: every fault at once, and then without the one that was found, to none; the last place of the 3 by 5
 -- that one step makes of 2 by 3, and a place past it on either side
-abbrev tooLarge : List ℤ
-tooLarge = pos 16777217 ∷ replicate (numbers 2 2 - 1) (pos 0)
-
 point-order :
-    (refinedPointRefusal [] 2 1 7 9999 0 true ≡ 1)
-    × (refinedPointRefusal [] 2 2 7 9999 0 true ≡ 4)
-    × (refinedPointRefusal [] 2 2 1 2049 0 true ≡ 6)
-    × (refinedPointRefusal [] 2 2 1 2048 0 true ≡ 2)
-    × (refinedPointRefusal tooLarge 2 2 1 2048 0 true ≡ 5)
-    × (refinedPointRefusal tooLarge 2 2 1 2048 0 false ≡ 3)
-    × (refinedPointRefusal (replicate (numbers 2 2) (pos 0)) 2 2 1 2048 0 false ≡ 0)
+    (refinedPointRefusal tooFew 1026 2 7 134217729 0 true ≡ 1)
+    × (refinedPointRefusal tooFew 2 2 7 134217729 0 true ≡ 4)
+    × (refinedPointRefusal tooFew 2 2 1 2049 0 true ≡ 6)
+    × (refinedPointRefusal tooFew 2 2 1 2048 0 true ≡ 2)
+    × (refinedPointRefusal (tooLarge 0) 2 2 1 2048 0 true ≡ 5)
+    × (refinedPointRefusal (tooLarge 0) 2 2 1 2048 0 false ≡ 3)
+    × (refinedPointRefusal zeros 2 2 1 2048 0 false ≡ 0)
 unfolding netBeyond
 point-order = (refl, refl, refl, refl, refl, refl, refl)
 

@@ -2,10 +2,9 @@
 use mathlib.Core.Path.{_≡_, refl}
 use mathlib.Core.List.{List, [], _∷_}
 use Prim.Native.Nat.{ℕ, _-_}
-use lib.IntN.{ℤ, pos}
-use lib.ListN.{replicate, set}
+use lib.IntN.{ℤ}
 use Rattle.net.specs.Net.{numbers}
-use Rattle.net.specs.Refusals.{firstFault, badSize, shortNet}
+use Rattle.net.specs.Refusals.{firstFault, badSize, shortNet, zeros, tooLarge, tooFew}
 use Rattle.places.specs.Places.{chosen}
 use Rattle.places.specs.Refusals.{noPlace}
 use Rattle.triangles.specs.Refusals.{triangleBeyond}
@@ -23,16 +22,10 @@ pointRefusal net w h p q =
 -- worked cases: every fault at once, and then without the one that was found, to none; document 01's example of 6 and
 -- the accepted place p = 1,024 at w = 2; with f + g = 1024, a number of vertex (0, 0) beyond the range counts and one
 -- of vertex (1, 1) does not, since the up triangle is chosen
-abbrev zeros : List ℤ
-zeros = replicate (numbers 2 2) (pos 0)
-
-abbrev tooLarge : ℕ → List ℤ
-tooLarge at = set zeros at (pos 16777217)
-
 order :
-    (pointRefusal [] 2 1 1025 0 ≡ 1)
-    × (pointRefusal [] 2 2 1025 0 ≡ 6)
-    × (pointRefusal [] 2 2 1024 0 ≡ 2)
+    (pointRefusal tooFew 1026 2 1049601 0 ≡ 1)
+    × (pointRefusal tooFew 2 2 1025 0 ≡ 6)
+    × (pointRefusal tooFew 2 2 1024 0 ≡ 2)
     × (pointRefusal (tooLarge 9) 2 2 1024 0 ≡ 3)
     × (pointRefusal zeros 2 2 1024 0 ≡ 0)
 order = (refl, refl, refl, refl, refl)

@@ -6,10 +6,10 @@ use mathlib.Core.List.{List, [], _∷_}
 use Prim.Native.Nat.{ℕ, _-_}
 use lib.Dec.{ltb, eqb}
 use lib.IntN.{ℤ, pos}
-use lib.ListN.{length, replicate, set}
+use lib.ListN.{length}
 use Rattle.exact.specs.Filling.{runs}
 use Rattle.net.specs.Net.{Triangle, triangleAt, numbers, squares}
-use Rattle.net.specs.Refusals.{firstFault, badSize, shortNet, netBeyond}
+use Rattle.net.specs.Refusals.{firstFault, badSize, shortNet, netBeyond, zeros, tooLarge, tooFew}
 use Rattle.places.specs.Places.{chosen}
 use Rattle.places.specs.Refusals.{noPlace}
 use Rattle.triangles.specs.Refusals.{triangleBeyond}
@@ -68,30 +68,24 @@ readSize file = fileWidth file ∷ fileHeight file ∷ []
 
 -- ---- worked cases: every fault at once, and then without the one that was found, to none
 
-abbrev zeros : List ℤ
-zeros = replicate (numbers 2 2) (pos 0)
-
-abbrev tooLarge : List ℤ
-tooLarge = set zeros (numbers 2 2 - 1) (pos 16777217)
-
 bezier-order :
-    (bezierExport [] 2 1 0 0 2 56 ≡ 1)
-    × (bezierExport [] 2 2 0 0 2 56 ≡ 6)
-    × (bezierExport [] 2 2 0 0 1 56 ≡ 2)
-    × (bezierExport tooLarge 2 2 0 0 1 56 ≡ 5)
-    × (bezierExport tooLarge 2 2 0 0 1 57 ≡ 3)
-    × (bezierExport tooLarge 2 2 0 0 0 57 ≡ 0)
+    (bezierExport tooFew 1026 2 0 0 2 56 ≡ 1)
+    × (bezierExport tooFew 2 2 0 0 2 56 ≡ 6)
+    × (bezierExport tooFew 2 2 0 0 1 56 ≡ 2)
+    × (bezierExport (tooLarge (numbers 2 2 - 1)) 2 2 0 0 1 56 ≡ 5)
+    × (bezierExport (tooLarge (numbers 2 2 - 1)) 2 2 0 0 1 57 ≡ 3)
+    × (bezierExport (tooLarge (numbers 2 2 - 1)) 2 2 0 0 0 57 ≡ 0)
 bezier-order = (refl, refl, refl, refl, refl, refl)
 
 triangles : (exportedTriangle 3 5 0 ≡ triangleAt 3 5 false) × (exportedTriangle 3 5 1 ≡ triangleAt 3 5 true)
 triangles = (refl, refl)
 
 point-order :
-    (pointExport [] 2 1 1025 1024 2 ≡ 1)
-    × (pointExport [] 2 2 1025 1024 2 ≡ 6)
-    × (pointExport [] 2 2 1024 1024 2 ≡ 2)
-    × (pointExport tooLarge 2 2 1024 1024 2 ≡ 5)
-    × (pointExport tooLarge 2 2 1024 1024 3 ≡ 3)
+    (pointExport tooFew 1026 2 1049601 1024 2 ≡ 1)
+    × (pointExport tooFew 2 2 1025 1024 2 ≡ 6)
+    × (pointExport tooFew 2 2 1024 1024 2 ≡ 2)
+    × (pointExport (tooLarge (numbers 2 2 - 1)) 2 2 1024 1024 2 ≡ 5)
+    × (pointExport (tooLarge (numbers 2 2 - 1)) 2 2 1024 1024 3 ≡ 3)
     × (pointExport zeros 2 2 1024 1024 3 ≡ 0)
 point-order = (refl, refl, refl, refl, refl, refl)
 
@@ -100,17 +94,17 @@ refined-point-room :
     (refinedPointExport zeros 2 2 0 0 0 zeros [] (pos 7 ∷ pos 7 ∷ []) ≡ 5)
     × (refinedPointExport zeros 2 2 0 0 0 zeros [] (pos 7 ∷ pos 7 ∷ pos 7 ∷ []) ≡ 0)
     × (refinedPointExport zeros 2 2 0 0 0 [] [] (pos 7 ∷ pos 7 ∷ pos 7 ∷ []) ≡ 5)
-    × (refinedPointExport tooLarge 2 2 0 0 0 zeros [] [] ≡ 5)
-    × (refinedPointExport tooLarge 2 2 0 0 0 zeros [] (pos 7 ∷ pos 7 ∷ pos 7 ∷ []) ≡ 3)
+    × (refinedPointExport (tooLarge (numbers 2 2 - 1)) 2 2 0 0 0 zeros [] [] ≡ 5)
+    × (refinedPointExport (tooLarge (numbers 2 2 - 1)) 2 2 0 0 0 zeros [] (pos 7 ∷ pos 7 ∷ pos 7 ∷ []) ≡ 3)
 unfolding netBeyond
 refined-point-room = (refl, refl, refl, refl, refl)
 
 write-order :
-    (writeExport [] 2 1 155 0 ≡ 1)
-    × (writeExport [] 2 2 155 0 ≡ 2)
-    × (writeExport tooLarge 2 2 155 1 ≡ 5)
-    × (writeExport tooLarge 2 2 156 0 ≡ 5)
-    × (writeExport tooLarge 2 2 156 1 ≡ 3)
+    (writeExport tooFew 1026 2 155 0 ≡ 1)
+    × (writeExport tooFew 2 2 155 0 ≡ 2)
+    × (writeExport (tooLarge (numbers 2 2 - 1)) 2 2 155 1 ≡ 5)
+    × (writeExport (tooLarge (numbers 2 2 - 1)) 2 2 156 0 ≡ 5)
+    × (writeExport (tooLarge (numbers 2 2 - 1)) 2 2 156 1 ≡ 3)
     × (writeExport zeros 2 2 156 1 ≡ 0)
 unfolding netBeyond
 write-order = (refl, refl, refl, refl, refl, refl)

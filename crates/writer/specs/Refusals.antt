@@ -4,10 +4,9 @@ use mathlib.Core.Bool.{Bool, true, false}
 use mathlib.Core.List.{List, [], _∷_}
 use Prim.Native.Nat.{ℕ, _-_}
 use lib.Dec.{ltb}
-use lib.IntN.{ℤ, pos}
-use lib.ListN.{replicate, set}
+use lib.IntN.{ℤ}
 use Rattle.net.specs.Net.{numbers}
-use Rattle.net.specs.Refusals.{Fault, firstFault, badSize, shortNet, netBeyond}
+use Rattle.net.specs.Refusals.{Fault, firstFault, badSize, shortNet, netBeyond, zeros, tooLarge, tooFew}
 use Rattle.words.specs.NetFile.{fileSize}
 
 -- the writer: 1, 2, 5, 3, and 3 looks at the whole net; `short` is whether a lent output is too short
@@ -22,23 +21,17 @@ writeRefusal net w h short = firstFault (writeFaults net w h short)
 abbrev pub noRoom : ℕ → ℕ → ℕ → Bool
 noRoom w h room = ltb room (fileSize w h)
 
-abbrev level : List ℤ
-level = replicate (numbers 2 2) (pos 5)
-
 -- worked cases: document 01's example of 5, and a byte more; every fault at once, and then without the one that was
 -- found, to none
-write-examples : (writeRefusal level 2 2 (noRoom 2 2 155) ≡ 5) × (writeRefusal level 2 2 (noRoom 2 2 156) ≡ 0)
+write-examples : (writeRefusal zeros 2 2 (noRoom 2 2 155) ≡ 5) × (writeRefusal zeros 2 2 (noRoom 2 2 156) ≡ 0)
 unfolding netBeyond
 write-examples = (refl, refl)
 
-abbrev tooLarge : List ℤ
-tooLarge = set level (numbers 2 2 - 1) (pos 16777217)
-
 order :
-    (writeRefusal [] 2 1 true ≡ 1)
-    × (writeRefusal [] 2 2 true ≡ 2)
-    × (writeRefusal tooLarge 2 2 true ≡ 5)
-    × (writeRefusal tooLarge 2 2 false ≡ 3)
-    × (writeRefusal level 2 2 false ≡ 0)
+    (writeRefusal tooFew 1026 2 true ≡ 1)
+    × (writeRefusal tooFew 2 2 true ≡ 2)
+    × (writeRefusal (tooLarge (numbers 2 2 - 1)) 2 2 true ≡ 5)
+    × (writeRefusal (tooLarge (numbers 2 2 - 1)) 2 2 false ≡ 3)
+    × (writeRefusal zeros 2 2 false ≡ 0)
 unfolding netBeyond
 order = (refl, refl, refl, refl, refl)

@@ -86,7 +86,8 @@ same-length c = search needs
 returns : tie.Need-returns
 returns c =
     let k = c .before .before .before in
-    let outcome = sym (ap readOutcome (k .before .found .given .1)) ∙ k .before .before .before .check-file .ensures in (
+    let outcome = sym (ap readOutcome (k .before .found .given .1))
+    ∙ k .before .before .before .check-file .ensures in (
       outcome,
       net-read (file k) (short k) (net k) (found k .0)
           (c .before .load-points .ensures
