@@ -2,7 +2,7 @@
 use mathlib.Core.Path.{_≡_, refl}
 use mathlib.Core.Bool.{_||_}
 use mathlib.Core.List.{List, [], _∷_, _++_}
-use Prim.Native.Nat.{ℕ, _-_}
+use Prim.Native.Nat.{ℕ, _+_, _-_}
 use lib.Dec.{ltb}
 use lib.IntN.{ℤ, pos}
 use lib.ListN.{length, take, replicate}
@@ -24,7 +24,7 @@ abbrev pub copyBack : List ℤ → ℕ → ℕ → List ℕ → List ℤ → Lis
 copyBack net w h out back = outputAfter (copyRefusal net w h out back) (take (numbers w h) net) back
 
 -- worked cases: of a net of 2 by 2, with a byte too few for the file, with a number too few to read into, and with
--- neither; of the net of 2 by 3 whose numbers are the squares, copied with room for a byte and a number more, and
+-- neither; of 2 by 3 numbers and one more that are the squares, copied with room for a byte and a number more, and
 -- refused
 examples :
     (copyRefusal zeros 2 2 (replicate 155 0) zeros ≡ 5)
@@ -34,12 +34,12 @@ unfolding netBeyond
 examples = (refl, refl, refl)
 
 abbrev net23 : List ℤ
-net23 = squares (numbers 2 3)
+net23 = squares (numbers 2 3 + 1)
 
 outputs :
     (copyOutput net23 2 3 (replicate 229 7) (replicate 55 (pos 7)) ≡ netFile net23 2 3 ++ 7 ∷ [])
     × (copyOutput net23 2 3 (replicate 229 7) (replicate 53 (pos 7)) ≡ replicate 229 7)
-    × (copyBack net23 2 3 (replicate 229 7) (replicate 55 (pos 7)) ≡ net23 ++ pos 7 ∷ [])
+    × (copyBack net23 2 3 (replicate 229 7) (replicate 55 (pos 7)) ≡ squares (numbers 2 3) ++ pos 7 ∷ [])
     × (copyBack net23 2 3 (replicate 227 7) (replicate 55 (pos 7)) ≡ replicate 55 (pos 7))
 unfolding netBeyond over netFile pointBytes wordBytes runs
 outputs = (refl, refl, refl, refl)
