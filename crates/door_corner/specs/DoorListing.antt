@@ -14,7 +14,7 @@ use Rattle.steps.specs.RefinedNet.{stored, refinedNet}
 use Rattle.words.specs.NetFile.{wordBytes, firstWord, pointBytes, netFile, firstPoint}
 use Rattle.decimal.specs.Decimal.{digitsOf, decimal, signedDecimal}
 use Rattle.listing_text.specs.Listing.{headLine, pointLine, listing}
-use Rattle.listing_text.specs.Printed.{printed}
+use Rattle.listing_input.specs.Printed.{printed}
 use Rattle.door_corner.specs.DoorCorner.{doorCorner}
 
 -- what document 01 prints

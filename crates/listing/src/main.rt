@@ -2,12 +2,12 @@
 // number of its first fault.
 use libc::STDIN_FILENO;
 use libc::STDOUT_FILENO;
-use listing_text::BUFFER_SIZE;
-use listing_text::INPUT_SIZE;
-use listing_text::ListAnswer;
+use listing_input::BUFFER_SIZE;
+use listing_input::INPUT_SIZE;
+use listing_input::ListAnswer;
+use listing_input::refine_input;
 use listing_text::list_piece;
 use listing_text::list_refusal;
-use listing_text::refine_input;
 ghost use Prim.Native.Nat.{_*_, _≤_};
 ghost use Rattle.net.specs.Refusals.{AcceptedNet};
 

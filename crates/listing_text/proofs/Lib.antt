@@ -1,4 +1,3 @@
--- The laws of lines, of pieces and of files.
+-- The laws of lines and of pieces.
 pub mod LineLaws
 pub mod PieceLaws
-pub mod FileLaws

@@ -1,4 +1,3 @@
--- The definitions that contracts cite: the listing, what the program prints, and the statements about them.
+-- The definitions that contracts cite: the listing, and the statement about it.
 pub mod Listing
-pub mod Printed
 pub mod Promises

@@ -1,26 +1,11 @@
--- What makes the pieces believable, of the definitions: the statements, each with the name of its proof.
+-- What makes the pieces believable, of the definitions: the statement, with the name of its proof.
 use mathlib.Core.Path.{_≡_}
 use mathlib.Core.List.{List}
 use Prim.Native.Nat.{ℕ, _+_, _*_}
 use lib.IntN.{ℤ}
-use lib.ListN.{length}
-use Rattle.exact.specs.Filling.{over, runs}
-use Rattle.subdivision.specs.Refinement.{refinedSide}
-use Rattle.words.specs.NetFile.{fileWidth, fileHeight}
+use Rattle.exact.specs.Filling.{runs}
 use Rattle.listing_text.specs.Listing.{listing, pieceText}
-use Rattle.listing_text.specs.Printed.{bufferSize, listRefusal, refinedFile, fileText}
-
--- ---- pieces
 
 -- one after the other, the pieces are the listing (`pieces-list`)
 abbrev pub PiecesList : Type 0
 PiecesList = (net : List ℤ) (w h : ℕ) → runs (1 + w * h) (pieceText net w h) ≡ listing net w h
-
--- one after the other, the pieces of what one refinement of the file's net leaves in the buffer are what is printed
--- (`pieces-printed`)
-abbrev pub PiecesPrinted : Type 0
-PiecesPrinted =
-    (file : List ℕ) (buffer : List ℤ) → length buffer ≡ bufferSize → listRefusal file bufferSize bufferSize ≡ 0 →
-    (let w = refinedSide (fileWidth file) in
-    let h = refinedSide (fileHeight file) in
-    runs (1 + w * h) (pieceText (over (refinedFile file) buffer) w h) ≡ fileText file)

@@ -1,5 +1,5 @@
--- The parts of the nine control points in the exact value: each one's factor, by the tables of the six Bézier points
--- and the squares of A, B and G.
+-- The parts (document 02's term: a control point's factor in the exact point) of the nine control points, by the tables
+-- of the six Bézier points and the squares of A, B and G.
 use mathlib.Core.Bool.{Bool, true, false}
 use mathlib.Core.List.{List, [], _∷_, map}
 use Prim.Native.Nat.{ℕ, _*_}

@@ -1,8 +1,8 @@
 -- `listing::main` meets its contract.
 use mathlib.Core.Path.{subst}
 use borrow.Author.Needs.{needs}
-use Rattle.listing_text.specs.Printed.{ReadyToList}
-use Rattle.listing_text.specs.declared.files.ListAnswer.{ListAnswer}
+use Rattle.listing_input.specs.Printed.{ReadyToList}
+use Rattle.listing_input.specs.declared.files.ListAnswer.{ListAnswer}
 use Rattle.listing.proofs.main.Statement.{statement}
 use Rattle.listing.proofs.main.Tie as tie
 

@@ -16,9 +16,9 @@ use Rattle.words.specs.NetFile.{wordBytes, firstWord, pointBytes, netFile, file
 use Rattle.words.specs.Answers.{answer}
 use Rattle.reader.specs.Refusals.{readFaults, shortFor}
 use Rattle.decimal.specs.Decimal.{digitsOf, decimal}
 use Rattle.listing_text.specs.Listing.{listing, refusalLine}
-use Rattle.listing_text.specs.declared.files.ListAnswer.{ListAnswer}
-use Rattle.listing_text.specs.declared.files.ListAnswer.the-variants as listed
+use Rattle.listing_input.specs.declared.files.ListAnswer.{ListAnswer}
+use Rattle.listing_input.specs.declared.files.ListAnswer.the-variants as listed
 
 -- 'It takes at most the first 65,536 bytes', and 'its net and output buffers hold 16,384 numbers each'
 abbrev pub inputSize : ℕ
@@ -67,8 +67,7 @@ pub record RefineFileContract (file : List ℕ) (net refined : List ℤ) (r : Li
       ≡ outputAfter (listRefusal file (length net) (length refined)) (refinedFile file) refined
   pub ready : ReadyToList r refinedAfter
 
--- the buffers that the program lends: its whole input of at most so many bytes, of which `count` were read, and two
--- nets
+-- the buffers that the program lends: the input's, of which `count` bytes were read, and those of the two nets
 pub record Buffers (input : List ℕ) (count : ℕ) (net refined : List ℤ) : Type 0 where
   pub inputLength : length input ≡ inputSize
   pub inputRead : count ≤ inputSize

@@ -1,4 +1,4 @@
--- `listing_text::files::refine_file` meets its contract.
+-- `listing_input::files::refine_file` meets its contract.
 use mathlib.Core.Path.{_≡_, sym, ap, _∙_}
 use mathlib.Core.List.{[], _∷_}
 use lib.Dec.{lit<}
@@ -10,10 +10,10 @@ use Rattle.subdivision.specs.Refinement.{refinedSide}
 use Rattle.words.specs.NetFile.{fileWidth, fileHeight, fileNumbers}
 use Rattle.reader.specs.Refusals.{readRefusal, shortFor}
 use Rattle.reader.specs.Answers.{readOutcome}
-use Rattle.listing_text.specs.Printed.{listRefusal, refinedFile}
-use Rattle.listing_text.proofs.FileLaws.{refused-reading}
-use Rattle.listing_text.proofs.files.refine_file.Statement.{statement}
-use Rattle.listing_text.proofs.files.refine_file.Tie as tie
+use Rattle.listing_input.specs.Printed.{listRefusal, refinedFile}
+use Rattle.listing_input.proofs.FileLaws.{refused-reading}
+use Rattle.listing_input.proofs.files.refine_file.Statement.{statement}
+use Rattle.listing_input.proofs.files.refine_file.Tie as tie
 
 check-file-requires : tie.Need-check-file-requires
 check-file-requires c κs = search needs

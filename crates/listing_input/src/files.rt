@@ -12,7 +12,7 @@ ghost use mathlib.Core.List.{[], _∷_};
 ghost use lib.ListN.{take};
 ghost use Rattle.net.specs.Refusals.{badSize};
 ghost use Rattle.reader.specs.Answers.{readAnswer};
-ghost use Rattle.listing_text.specs.Printed.{stepRefusal, RefineFileContract, Buffers};
+ghost use Rattle.listing_input.specs.Printed.{stepRefusal, RefineFileContract, Buffers};
 
 // The listing program's buffers: at most so many bytes of its input are taken, and each of its two nets has room for so
 // many numbers.
@@ -65,7 +65,7 @@ fn refine_checked(
 
 // The file's numbers over the front of `net`, and the net that one refinement makes of them over the front of
 // `refined`; or the first fault of reading and then of refining, which changes neither. No preconditions.
-pub fn refine_file(file: &[u8], net: &mut [i32], refined: &mut [i32]) -> ListAnswer
+fn refine_file(file: &[u8], net: &mut [i32], refined: &mut [i32]) -> ListAnswer
     ensures { λ r. ⌜ RefineFileContract (now (file .entry)) (now (net .entry)) (now (refined .entry)) r
         (now (net .exit)) (now (refined .exit)) ⌝ }
 {

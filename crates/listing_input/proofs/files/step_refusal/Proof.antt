@@ -1,4 +1,4 @@
--- `listing_text::files::step_refusal` meets its contract.
+-- `listing_input::files::step_refusal` meets its contract.
 use mathlib.Core.Path.{_≡_, refl, sym, _∙_}
 use mathlib.Core.Bool.{true, false}
 use mathlib.Core.List.{List, [], _∷_}
@@ -13,8 +13,8 @@ use Rattle.net.proofs.Faults.{Clear, none-clear, fault-before, fault-after, con
 use Rattle.net.proofs.Places.{GoodSize, good-size}
 use Rattle.steps.specs.RefinedNet.{numbersAfter}
 use Rattle.refine.specs.Refusals.{tooShort, sizeFaults}
-use Rattle.listing_text.proofs.files.step_refusal.Statement.{statement}
-use Rattle.listing_text.proofs.files.step_refusal.Tie as tie
+use Rattle.listing_input.proofs.files.step_refusal.Statement.{statement}
+use Rattle.listing_input.proofs.files.step_refusal.Tie as tie
 
 abbrev faults : tie.Start → List Fault
 faults s = sizeFaults (s .args .w) (s .args .h) 1

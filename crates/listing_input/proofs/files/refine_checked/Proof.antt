@@ -1,4 +1,4 @@
--- `listing_text::files::refine_checked` meets its contract.
+-- `listing_input::files::refine_checked` meets its contract.
 use mathlib.Core.Path.{_≡_, refl, sym, ap, subst, _∙_}
 use mathlib.Core.Bool.{false}
 use mathlib.Core.List.{List, [], _∷_}
@@ -17,10 +17,10 @@ use Rattle.refine.specs.Refusals.{tooShort, refineRefusal}
 use Rattle.words.specs.NetFile.{fileWidth, fileHeight, fileNumbers}
 use Rattle.reader.specs.Refusals.{readRefusal, shortFor}
 use Rattle.reader.proofs.ReadLaws.{read-parts, good-head}
-use Rattle.listing_text.specs.Printed.{listRefusal, stepRefusal, refinedFile}
-use Rattle.listing_text.proofs.FileLaws.{refusal-after, refusal-first, refined-after, accepted-after}
-use Rattle.listing_text.proofs.files.refine_checked.Statement.{statement}
-use Rattle.listing_text.proofs.files.refine_checked.Tie as tie
+use Rattle.listing_input.specs.Printed.{listRefusal, stepRefusal, refinedFile}
+use Rattle.listing_input.proofs.FileLaws.{refusal-after, refusal-first, refined-after, accepted-after}
+use Rattle.listing_input.proofs.files.refine_checked.Statement.{statement}
+use Rattle.listing_input.proofs.files.refine_checked.Tie as tie
 
 module _ (s : tie.Start) where
   abbrev file : List ℕ

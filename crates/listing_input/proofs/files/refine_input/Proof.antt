@@ -1,10 +1,10 @@
--- `listing_text::files::refine_input` meets its contract.
+-- `listing_input::files::refine_input` meets its contract.
 use mathlib.Core.Path.{sym}
 use native.Mathlib.Omega.{arith}
 use lib.Seq.{length-take-le}
 use borrow.Author.Needs.{needs}
-use Rattle.listing_text.proofs.files.refine_input.Statement.{statement}
-use Rattle.listing_text.proofs.files.refine_input.Tie as tie
+use Rattle.listing_input.proofs.files.refine_input.Statement.{statement}
+use Rattle.listing_input.proofs.files.refine_input.Tie as tie
 
 slice-aggregate-refine-file : tie.Need-slice-aggregate-refine-file
 slice-aggregate-refine-file c =

@@ -28,12 +28,12 @@ use Rattle.reader.specs.Answers.{readNet}
 use Rattle.reader.proofs.ReadLaws.{read-numbered}
 use Rattle.netfile.specs.Promises.{Readable}
 use Rattle.netfile.proofs.AcceptedFiles.{read-front, accepted-again}
 use Rattle.listing_text.specs.Listing.{headLine, pointLine, refusalLine, vertexLine, listing}
-use Rattle.listing_text.specs.Printed.{bufferSize, listOutcome, listRefusal, refinedFile, stepRefusal, ReadyToList}
-use Rattle.listing_text.specs.Promises.{PiecesPrinted}
+use Rattle.listing_input.specs.Printed.{bufferSize, listOutcome, listRefusal, refinedFile, stepRefusal, ReadyToList}
+use Rattle.listing_input.specs.Promises.{PiecesPrinted}
 use Rattle.listing_text.proofs.PieceLaws.{pieces-list}
-use Rattle.listing_text.specs.declared.files.ListAnswer.{ListAnswer}
-use Rattle.listing_text.specs.declared.files.ListAnswer.the-variants as listed
+use Rattle.listing_input.specs.declared.files.ListAnswer.{ListAnswer}
+use Rattle.listing_input.specs.declared.files.ListAnswer.the-variants as listed
 
 module _ (file : List ℕ) (lent : List ℤ) (outRoom : ℕ) where
   abbrev w : ℕ

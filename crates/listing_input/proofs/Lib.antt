@@ -1,0 +1,2 @@
+-- The laws of files.
+pub mod FileLaws

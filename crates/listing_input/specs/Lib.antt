@@ -1,0 +1,3 @@
+-- The definitions that contracts cite: from an input to what is printed, and the statement about it.
+pub mod Printed
+pub mod Promises
