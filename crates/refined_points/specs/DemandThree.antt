@@ -15,8 +15,9 @@ use Rattle.bounds.specs.DemandThree.{fineEdge, NearSpline, WithinControls}
 use Rattle.refine.specs.Answers.{refusalOf, refineOutput}
 
 -- what is claimed of an answer at place (p, q) of the k times refined net: it is a point, x, y, z, and no refusal; and
--- each coordinate is within (k + 1)/2 units of the exact spline of the starting net at that place, edge count 1024·2^k,
--- and within the least and the greatest of the nine control values of each starting triangle that the place lies in
+-- each coordinate is within (k + 1)/2 units of the exact spline of the starting net at that place, edge count
+-- 1024·2^k, and within the least and the greatest of the nine control values of each starting triangle that the place
+-- lies in
 pub record Claimed (net : List ℤ) (w h k p q : ℕ) (outcome : ℕ × List ℤ) : Type 0 where
   pub answered : outcome .0 ≡ 0
   pub point : length (outcome .1) ≡ 3

@@ -20,8 +20,8 @@ AnyTriangle =
     valueIn (t .down) (controlsOf F t) o (sharesIn D p q t) ≡ spline F w h D p q
 
 -- in each triangle that a place lies in, the exact value is a weighted sum of the nine control values
--- (`spline-by-weights`), whose weights sum to 36·D² (`weights-total`), are at least 0 (`weight-not-negative`), and are
--- 0 at a corner with share 0 (`no-share-no-weight`)
+-- (`spline-by-weights`), whose weights sum to 36·D² (`weights-total`), are at least 0 (`weight-not-negative`), and
+-- are 0 at a corner with share 0 (`no-share-no-weight`)
 abbrev pub SplineByWeights : Type 0
 SplineByWeights =
     (F : Field) (w h D p q : ℕ) (t : Triangle) → 0 < D → OfNet w h t → LiesIn D p q t →

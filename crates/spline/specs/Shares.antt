@@ -37,8 +37,8 @@ vertexShare D p q v =
 abbrev pub Descending : (Index → ℕ) → Order → Type 0
 Descending a o = (a (cornerQ o) ≤ a (cornerP o)) × (a (cornerT o) ≤ a (cornerQ o))
 
--- the weights of ck, cn and cm of a corner P in the exact value times 36·D², where P has the share a, its neighbour P +
--- ek the share b and P - em the share d. A difference of shares counts where it is above 0.
+-- the weights of ck, cn and cm of a corner P in the exact value times 36·D², where P has the share a, its neighbour P
+-- + ek the share b and P - em the share d. A difference of shares counts where it is above 0.
 abbrev pub square : ℕ → ℤ
 square n = pos (n * n)
 
@@ -60,9 +60,9 @@ weightOf down a P l =
 abbrev pub controlWeights : Bool → (Index → ℕ) → List ℤ
 controlWeights down a = controlList (weightOf down a)
 
--- worked cases: the last triangle of a net of 3 by 2 is of the net; place (700, 600) lies in the down triangle of cell
--- (0, 0) with shares 424, 324 and 276, and (1, 1) is the vertex with share 276; a vertex has 12·D² for each of its own
--- controls; in the middle of a triangle each corner has 72, 36 and 0 for ck, cn and cm, of 36·3²
+-- worked cases: the last triangle of a net of 3 by 2 is of the net; place (700, 600) lies in the down triangle of
+-- cell (0, 0) with shares 424, 324 and 276, and (1, 1) is the vertex with share 276; a vertex has 12·D² for each of
+-- its own controls; in the middle of a triangle each corner has 72, 36 and 0 for ck, cn and cm, of 36·3²
 last-triangle : OfNet 3 2 (triangleAt 1 0 true)
 last-triangle = (lit≤ tt, lit≤ tt)
 

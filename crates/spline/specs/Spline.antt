@@ -26,9 +26,9 @@ unfoldable pub spline : Field → ℕ → ℕ → ℕ → ℕ → ℕ → ℤ
 spline F w h D p q =
     valueIn (chosen D w h p q .down) (controlsOf F (chosen D w h p q)) (orderOf (share D w h p q)) (share D w h p q)
 
--- worked cases: at a vertex the exact value is 36·1024² times s; of the net of 3 by 2 whose numbers are the squares, y
--- at edge count 10 in the up triangle of cell (1, 0) with shares 5, 3, 2, and in the down triangle of cell (0, 0) with
--- shares 2, 3, 5, times 36·10²
+-- worked cases: at a vertex the exact value is 36·1024² times s; of the net of 3 by 2 whose numbers are the squares,
+-- y at edge count 10 in the up triangle of cell (1, 0) with shares 5, 3, 2, and in the down triangle of cell (0, 0)
+-- with shares 2, 3, 5, times 36·10²
 at-a-vertex : spline (λ v k. pos 7) 3 3 1024 1024 1024 ≡ pos 7 *ℤ pos 37748736
 unfolding spline
 at-a-vertex = refl
