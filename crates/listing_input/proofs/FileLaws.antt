@@ -7,12 +7,12 @@ use Prim.Native.Nat.{ℕ, _*_, _<_}
 use native.Mathlib.Omega.{arith}
 use lib.Dec.{lit<}
 use lib.IntN.{ℤ}
-use lib.ListN.{length, getD}
+use lib.ListN.{length}
 use Rattle.exact.specs.Filling.{over, runs}
 use Rattle.exact.proofs.FillingLaws.{runs-same}
 use Rattle.net.specs.Net.{number}
 use Rattle.net.specs.Refusals.{Fault, firstFault, AcceptedNet}
-use Rattle.net.proofs.Faults.{when-accepted, numbered-append, none-clear, clear-none, clear-parts, fault-before, fault-after, answered}
+use Rattle.net.proofs.Faults.{when-accepted, numbered-append, none-clear, clear-none, clear-parts, fault-before, fault-after}
 use Rattle.places.specs.Places.{OnGrid}
 use Rattle.subdivision.specs.Refinement.{refinedSide, sideAfter}
 use Rattle.steps.specs.RefinedNet.{refinedNet}
@@ -21,7 +21,6 @@ use Rattle.refine.proofs.Refinable.{Refinable, refine-accepted}
 use Rattle.refine.proofs.CutNets.{cut-refine-refusal, cut-refined}
 use Rattle.refined_points.proofs.RefinedPoints.{refined-accepted, refined-coordinate, point-of-refined}
 use Rattle.words.specs.NetFile.{fileWidth, fileHeight, fileNumbers}
-use Rattle.words.specs.Answers.{answer}
 use Rattle.writer.specs.Refusals.{writeFaults}
 use Rattle.reader.specs.Refusals.{readFaults, readRefusal, shortFor}
 use Rattle.reader.specs.Answers.{readNet}
@@ -29,11 +28,9 @@ use Rattle.reader.proofs.ReadLaws.{read-numbered}
 use Rattle.netfile.specs.Promises.{Readable}
 use Rattle.netfile.proofs.AcceptedFiles.{read-front, accepted-again}
 use Rattle.listing_text.specs.Listing.{headLine, pointLine, refusalLine, vertexLine, listing}
-use Rattle.listing_input.specs.Printed.{bufferSize, listOutcome, listRefusal, refinedFile, stepRefusal, ReadyToList}
+use Rattle.listing_input.specs.Printed.{bufferSize, listRefusal, refinedFile, stepRefusal}
 use Rattle.listing_input.specs.Promises.{PiecesPrinted}
 use Rattle.listing_text.proofs.PieceLaws.{pieces-list}
-use Rattle.listing_input.specs.declared.files.ListAnswer.{ListAnswer}
-use Rattle.listing_input.specs.declared.files.ListAnswer.the-variants as listed
 
 module _ (file : List ℕ) (lent : List ℤ) (outRoom : ℕ) where
   abbrev w : ℕ
@@ -89,14 +86,6 @@ module _ (file : List ℕ) (lent : List ℤ) (outRoom : ℕ) where
         (ap (λ (n : ℕ). refineRefusal net w h 1 (tooShort w h 1 n 0)) (sym e) ∙ refusal-after ∙ none) in
         subst (λ (l : List ℤ). AcceptedNet (over l refined) (refinedSide w) (refinedSide h)) refined-after
         (refined-accepted net w h 1 refined t)
-
--- the outcome of an answer makes its net ready
-pub ready : (r : ListAnswer) (refusal m n : ℕ) (net : List ℤ) → listOutcome r ≡ answer refusal (m ∷ n ∷ []) →
-    (refusal ≡ 0 → AcceptedNet net m n) → ReadyToList r net
-ready (listed.Net a b) refusal m n net e f =
-    let q = answered refusal (m ∷ n ∷ []) e in
-    subst (λ (l : List ℕ). AcceptedNet net (getD l 0 0) (getD l 1 0)) (sym (q .1)) (f (q .0))
-ready (listed.Refused k) refusal m n net e f = tt
 
 -- ---- what is printed
 

@@ -41,7 +41,7 @@ fn step_refusal(w: usize, h: usize, room: usize) -> u32
     0
 }
 
-// The same as `refine_file`, of a file that is known to be one of a net of width w and height h.
+// The same, of a file of a net of width w and height h. For `refine_file`, which has checked the file.
 fn refine_checked(
     file: &[u8],
     w: usize,

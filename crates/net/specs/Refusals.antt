@@ -85,9 +85,9 @@ tooLarge n = set zeros n (pos 16777217)
 abbrev pub tooFew : List ℤ
 tooFew = replicate (numbers 2 2 - 1) (pos 16777217)
 
--- document 01's examples of 1, 2 and 3, the limits that are accepted, each side too small and too large,
--- a missing vertex of a short net, the last vertex of 3 by 2 and a row that it does not have, an output that is refused
--- and one that is written, and a part
+-- document 01's examples of 1, 2 and 3, the limits that are accepted, each side too small and too large, a missing
+-- vertex of a short net, the last vertex of 3 by 2 and a row that it does not have, an output that is refused and one
+-- that is written, and a part
 examples :
     (vertexRefusal [] 1 2 1 0 ≡ 1)
     × (vertexRefusal (replicate 35 (pos 0)) 2 2 1 1 ≡ 2)

@@ -1,7 +1,7 @@
 -- Document 01, "Turned away": the rows of the refined point, in the order 1, 4, 6, 2, 5, 3.
 use mathlib.Core.Path.{_≡_, refl}
 use mathlib.Core.Bool.{Bool, true, false}
-use mathlib.Core.List.{List, [], _∷_, _++_}
+use mathlib.Core.List.{List, _∷_, _++_}
 use Prim.Native.Nat.{ℕ}
 use lib.IntN.{ℤ}
 use Rattle.net.specs.Refusals.{firstFault, netBeyond, zeros, tooLarge, tooFew}
