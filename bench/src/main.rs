@@ -5,11 +5,17 @@
 //! - `surface point`, `Bézier net`: one call at a random place or triangle of a net of 17 by 17.
 //! - `refine`: 17 by 17 by six steps to 1,025 by 1,025, 1.05 million vertices. `table` is plain
 //!   Rust with the weight table, `kinds` is Rust written out for each kind of vertex, `copy`
-//!   copies the refined net.
+//!   copies the result.
+//! - `split`, `merge`: a net of 1,025 by 1,025 into its coarse net and details, and these back
+//!   into the net, with the same columns.
+//! - `clean`: the details of that net, of which half become 0. Each pass begins with the details
+//!   as they were; putting them back is not timed.
 //! - `write`, `read`: the file of a net of 1,025 by 1,025; `copy` copies the file's bytes.
 
+mod kernel;
 mod plain;
 mod plain_file;
+mod plain_multiresolution;
 mod plain_refine;
 // Not every function of the library is timed.
 #[allow(dead_code)]
@@ -18,23 +24,27 @@ mod raw;
 #[path = "../../tests/src/record.rs"]
 mod record;
 
-use plain::Refusal;
-use plain_refine::{refined, Size};
+use plain::{Refusal, LIMIT};
+use plain_multiresolution::{merge as plain_merge, split as plain_split};
+use plain_refine::{kind_row, refined, table_row, Size};
 use record::numbers;
 use std::cell::RefCell;
 use std::hint::black_box;
 use std::time::Instant;
 
 const SIDE: usize = 17;
-/// Both sides of the net that is written to a file and read back.
-const FILE_SIDE: usize = 1025;
+/// Both sides of the nets that are split, and written to a file and read back.
+const FINE_SIDE: usize = 1025;
+/// Both sides of the coarse net.
+const COARSE_SIDE: usize = FINE_SIDE / 2 + 1;
 /// Steps of refining.
 const STEPS: usize = 6;
 const CALLS: usize = 4096;
 const ROUNDS: usize = 61;
 /// Passes over the list of inputs in one round, so that a round lasts some milliseconds.
 const PASSES: usize = 16;
-const LIMIT: i32 = 16_777_216;
+/// The greatest size of what is added to a refined net, so that it has details.
+const NOISE: i32 = 1024;
 
 /// splitmix64 with a fixed seed.
 struct Random(u64);
@@ -66,30 +76,34 @@ struct Subject<'a> {
 
 impl Subject<'_> {
     fn measure(self) {
-        let times = medians(self.name, PASSES, [self.kernel, self.plain]);
-        let [kernel, plain] = times.map(|time| time / self.calls as f64);
+        let times = medians(self.name, PASSES, || (), vec![self.kernel, self.plain]);
+        let [kernel, plain] = [times[0], times[1]].map(|time| time / self.calls as f64);
         let ratio = kernel / plain;
         println!("{:<16}{kernel:>10.1}{plain:>10.1}{ratio:>8.2}", self.name);
     }
 }
 
-/// The median time of a pass of each version, in nanoseconds.
-fn medians<const N: usize>(name: &str, passes: usize, mut versions: [Pass; N]) -> [f64; N] {
-    let mut times = [const { Vec::new() }; N];
+/// The median time of a pass of each version, in nanoseconds. `prepare` is not timed; it comes
+/// before the passes of each version.
+fn medians(name: &str, passes: usize, prepare: impl Fn(), mut versions: Vec<Pass>) -> Vec<f64> {
+    let count = versions.len();
+    let mut times = vec![Vec::new(); count];
     for round in 0..ROUNDS {
-        let mut sums = [0; N];
+        let mut sums = vec![0; count];
         // The version that goes first changes from round to round.
-        for offset in 0..N {
-            let version = (round + offset) % N;
+        for offset in 0..count {
+            let version = (round + offset) % count;
+            prepare();
             let start = Instant::now();
             for _ in 0..passes {
                 sums[version] += black_box(versions[version]());
             }
             times[version].push(start.elapsed().as_nanos() as f64 / passes as f64);
         }
-        assert_eq!(sums, [sums[0]; N], "{name}: the results differ");
+        let same = sums.iter().all(|sum| *sum == sums[0]);
+        assert!(same, "{name}: the results differ");
     }
-    times.map(median)
+    times.into_iter().map(median).collect()
 }
 
 fn median(mut times: Vec<f64>) -> f64 {
@@ -198,12 +212,12 @@ fn copy(len: usize) -> Pass<'static> {
 
 /// Writes the net in each version and hands its file back.
 fn write_file(net: &[i32]) -> Vec<u8> {
-    let len = plain_file::file_len((FILE_SIDE, FILE_SIDE));
+    let len = plain_file::file_len((FINE_SIDE, FINE_SIDE));
     let (mut out, mut same) = (touched(len), touched(len));
     let kernel = Box::new(|| {
         let mut written = [0];
         let (at, count, to) = (net.as_ptr(), net.len(), out.as_mut_ptr());
-        let (w, h, count_to) = (FILE_SIDE, FILE_SIDE, written.as_mut_ptr());
+        let (w, h, count_to) = (FINE_SIDE, FINE_SIDE, written.as_mut_ptr());
         // SAFETY: the lengths are those of the net and of the two outputs.
         let refusal = unsafe { raw::ups_write(at, count, w, h, to, len, count_to, 1) };
         assert_eq!(refusal, 0);
@@ -212,13 +226,13 @@ fn write_file(net: &[i32]) -> Vec<u8> {
     });
     let plain = Box::new(|| {
         let mut written = [0];
-        let size = (FILE_SIDE, FILE_SIDE);
+        let size = (FINE_SIDE, FINE_SIDE);
         let answer = plain_file::write(black_box(net), size, &mut same, &mut written);
         assert_eq!(answer, Ok(()));
         black_box(&same);
         written[0] as i64
     });
-    let times = medians("write", 1, [kernel, plain, copy(len)]);
+    let times = medians("write", 1, || (), vec![kernel, plain, copy(len)]);
     assert!(out == same, "the bytes differ");
     print_times("write", &times);
     out
@@ -234,73 +248,155 @@ fn read_file(file: &[u8], net: &[i32]) {
         let (to, size_to) = (out.as_mut_ptr(), size.as_mut_ptr());
         // SAFETY: the lengths are those of the file and of the two outputs.
         let refusal = unsafe { raw::ups_read(at, count, to, len, size_to, 2) };
-        assert_eq!((refusal, size), (0, [FILE_SIDE as u64; 2]));
+        assert_eq!((refusal, size), (0, [FINE_SIDE as u64; 2]));
         black_box(&out);
         count as i64
     });
     let plain = Box::new(|| {
         let mut size = [0; 2];
         let answer = plain_file::read(black_box(file), &mut same, &mut size);
-        assert_eq!((answer, size), (Ok(()), [FILE_SIDE as u64; 2]));
+        assert_eq!((answer, size), (Ok(()), [FINE_SIDE as u64; 2]));
         black_box(&same);
         file.len() as i64
     });
-    let times = medians("read", 1, [kernel, plain, copy(file.len())]);
+    let times = medians("read", 1, || (), vec![kernel, plain, copy(file.len())]);
     assert!(out == net && same == net, "the nets differ");
     print_times("read", &times);
 }
 
-/// A version of refining, in the form of the plain ones.
-type Refine = fn(&[i32], Size, usize, &mut [i32], &mut [i32]) -> Result<(), Refusal>;
+/// One version of a call, which works in lent numbers.
+type Call<'a> = Box<dyn Fn(&mut [i32]) -> Result<(), Refusal> + 'a>;
 
-fn kernel_refine(
-    net: &[i32],
-    (w, h): Size,
-    k: usize,
-    out: &mut [i32],
-    scratch: &mut [i32],
-) -> Result<(), Refusal> {
-    let (at, len) = (net.as_ptr(), net.len());
-    let (to, to_len) = (out.as_mut_ptr(), out.len());
-    let (by, by_len) = (scratch.as_mut_ptr(), scratch.len());
-    // SAFETY: the lengths are those of the net, the output and the scratch.
-    match unsafe { raw::ups_refine(at, len, w, h, k, to, to_len, by, by_len) } {
-        0 => Ok(()),
-        refusal => Err(refusal),
-    }
+/// Times a call in each version and hands its result back: the first `len` of the lent numbers.
+/// `prepare` sets what they hold before each call and is not timed.
+fn measure_calls(
+    name: &str,
+    (lent_len, len): (usize, usize),
+    prepare: impl Fn(&mut [i32]),
+    versions: &[Call],
+) -> Vec<i32> {
+    let results = versions.iter().map(|call| {
+        let mut lent = touched(lent_len);
+        prepare(&mut lent);
+        assert_eq!(call(&mut lent), Ok(()));
+        lent.truncate(len);
+        lent
+    });
+    let result = results.reduce(|first, other| {
+        assert!(first == other, "{name}: the results differ");
+        first
+    });
+    let result = result.expect("a version");
+    time_calls(name, lent_len, &result, prepare, versions);
+    result
 }
 
-/// Refines the net in each version, all with the same output and scratch.
-fn refine(net: &[i32]) {
+/// Times the versions and a copy of the result, all in the same lent numbers.
+fn time_calls(
+    name: &str,
+    lent_len: usize,
+    result: &[i32],
+    prepare: impl Fn(&mut [i32]),
+    versions: &[Call],
+) {
+    let len = result.len();
+    let lent = &RefCell::new(touched(lent_len));
+    let copy: Call = Box::new(|lent| {
+        lent[..len].copy_from_slice(black_box(result));
+        Ok(())
+    });
+    let passes = versions.iter().chain([&copy]).map(|call| -> Pass {
+        Box::new(move || {
+            let lent = &mut *lent.borrow_mut();
+            assert_eq!(call(lent), Ok(()));
+            sample(black_box(&lent[..len]))
+        })
+    });
+    let prepare = || prepare(&mut lent.borrow_mut());
+    let times = medians(name, 1, prepare, passes.collect());
+    print_times(name, &times);
+}
+
+/// The sum of a few numbers, among them some of each place in a vertex.
+fn sample(numbers: &[i32]) -> i64 {
+    numbers.iter().step_by(100_003).map(|&x| i64::from(x)).sum()
+}
+
+type Refine = fn(&[i32], Size, usize, &mut [i32], &mut [i32]) -> Result<(), Refusal>;
+
+/// Refines the net in each version and hands the refined net back.
+fn refine(net: &[i32]) -> Vec<i32> {
     let size = (SIDE, SIDE);
     let len = numbers(refined(size, STEPS));
     let scratch_len = numbers(refined(size, STEPS - 1));
-    let versions: [Refine; 3] = [kernel_refine, plain_refine::by_table, plain_refine::by_kind];
-    let results = versions.map(|version| {
-        let mut out = touched(len);
-        let answer = version(net, size, STEPS, &mut out, &mut touched(scratch_len));
-        assert_eq!(answer, Ok(()));
-        out
-    });
-    let [first, rest @ ..] = &results;
-    assert!(rest.iter().all(|out| out == first), "the nets differ");
-
-    let lent = &RefCell::new((touched(len), touched(scratch_len)));
-    let [kernel, table, kinds] = versions.map(|version| -> Pass {
-        Box::new(move || {
-            let (out, scratch) = &mut *lent.borrow_mut();
-            let answer = version(black_box(net), size, STEPS, out, scratch);
-            assert_eq!(answer, Ok(()));
-            i64::from(black_box(out)[len - 1])
+    let versions: [Refine; 3] = [
+        kernel::refine,
+        |net, size, k, out, scratch| plain_refine::refine(net, size, k, out, scratch, table_row),
+        |net, size, k, out, scratch| plain_refine::refine(net, size, k, out, scratch, kind_row),
+    ];
+    let calls = versions.map(|version| -> Call {
+        Box::new(move |lent| {
+            let (out, scratch) = lent.split_at_mut(len);
+            version(black_box(net), size, STEPS, out, scratch)
         })
     });
-    let copy = Box::new(|| {
-        let (out, _) = &mut *lent.borrow_mut();
-        out.copy_from_slice(black_box(first));
-        i64::from(black_box(out)[len - 1])
+    measure_calls("refine", (len + scratch_len, len), |_| (), &calls)
+}
+
+type Split = fn(&[i32], Size, &mut [i32], &mut [i32]) -> Result<(), Refusal>;
+
+/// Splits the net in each version and hands the coarse net and the details back.
+fn split(net: &[i32]) -> (Vec<i32>, Vec<i32>) {
+    let size = (FINE_SIDE, FINE_SIDE);
+    let coarse_len = numbers((COARSE_SIDE, COARSE_SIDE));
+    let len = coarse_len + record::details(size);
+    let versions: [Split; 3] = [
+        kernel::split,
+        |net, size, coarse, details| plain_split(net, size, coarse, details, table_row),
+        |net, size, coarse, details| plain_split(net, size, coarse, details, kind_row),
+    ];
+    let calls = versions.map(|version| -> Call {
+        Box::new(move |lent| {
+            let (coarse, details) = lent.split_at_mut(coarse_len);
+            version(black_box(net), size, coarse, details)
+        })
     });
-    let times = medians("refine", 1, [kernel, table, kinds, copy]);
-    print_times("refine", &times);
+    let mut coarse = measure_calls("split", (len, len), |_| (), &calls);
+    let details = coarse.split_off(coarse_len);
+    (coarse, details)
+}
+
+type Merge = fn(&[i32], &[i32], Size, &mut [i32]) -> Result<(), Refusal>;
+
+/// Merges the coarse net and the details in each version and hands the net back.
+fn merge(coarse: &[i32], details: &[i32]) -> Vec<i32> {
+    let len = numbers((FINE_SIDE, FINE_SIDE));
+    let versions: [Merge; 3] = [
+        kernel::merge,
+        |coarse, details, size, out| plain_merge(coarse, details, size, out, table_row),
+        |coarse, details, size, out| plain_merge(coarse, details, size, out, kind_row),
+    ];
+    let calls = versions.map(|version| -> Call {
+        let size = (COARSE_SIDE, COARSE_SIDE);
+        Box::new(move |lent| version(black_box(coarse), black_box(details), size, lent))
+    });
+    measure_calls("merge", (len, len), |_| (), &calls)
+}
+
+type Clean = fn(&mut [i32], Size, u32) -> Result<(), Refusal>;
+
+/// Cleans the details in each version, with their median size as the threshold.
+fn clean(details: &[i32]) {
+    let len = details.len();
+    let mut sizes: Vec<u32> = details.iter().map(|x| x.unsigned_abs()).collect();
+    let (_, &mut threshold, _) = sizes.select_nth_unstable(len / 2);
+    let versions: [Clean; 2] = [kernel::clean, plain_multiresolution::clean];
+    let calls = versions.map(|version| -> Call {
+        let size = (FINE_SIDE, FINE_SIDE);
+        Box::new(move |lent| version(black_box(lent), size, threshold))
+    });
+    let put_back = |lent: &mut [i32]| lent.copy_from_slice(details);
+    measure_calls("clean", (len, len), put_back, &calls);
 }
 
 fn random_net(random: &mut Random, side: usize) -> Vec<i32> {
@@ -310,6 +406,24 @@ fn random_net(random: &mut Random, side: usize) -> Vec<i32> {
         .collect()
 }
 
+/// A quarter of the net's numbers, with noise. A coarse number is at most 7/3 of the greatest in
+/// size, so none is out of range.
+fn noisy(net: &[i32], random: &mut Random) -> Vec<i32> {
+    let values = 2 * NOISE as usize + 1;
+    net.iter()
+        .map(|x| x / 4 + random.below(values) as i32 - NOISE)
+        .collect()
+}
+
+/// The headings of the kernel's time, and of each other version's with the ratio.
+fn print_headings(unit: &str, others: &[&str]) {
+    print!("{unit:<16}{:>10}", "kernel");
+    for other in others {
+        print!("{other:>10}{:>8}", "ratio");
+    }
+    println!();
+}
+
 fn main() {
     let mut random = Random(1);
     let net = random_net(&mut random, SIDE);
@@ -317,23 +431,21 @@ fn main() {
         surface_point(&net, &mut random),
         bezier_net(&net, &mut random),
     ];
-    println!(
-        "{:<16}{:>10}{:>10}{:>8}",
-        "ns per call", "kernel", "plain", "ratio"
-    );
+    print_headings("ns per call", &["plain"]);
     for subject in subjects {
         subject.measure();
     }
-    println!(
-        "\n{:<16}{:>10}{:>10}{:>8}{:>10}{:>8}{:>10}{:>8}",
-        "ms per net", "kernel", "table", "ratio", "kinds", "ratio", "copy", "ratio"
-    );
-    refine(&net);
-    println!(
-        "\n{:<16}{:>10}{:>10}{:>8}{:>10}{:>8}",
-        "ms per file", "kernel", "plain", "ratio", "copy", "ratio"
-    );
-    let net = random_net(&mut random, FILE_SIDE);
+    println!();
+    print_headings("ms per net", &["table", "kinds", "copy"]);
+    let net = noisy(&refine(&net), &mut random);
+    let (coarse, details) = split(&net);
+    assert!(merge(&coarse, &details) == net, "the nets differ");
+    println!();
+    print_headings("ms per net", &["plain", "copy"]);
+    clean(&details);
+    println!();
+    print_headings("ms per file", &["plain", "copy"]);
+    let net = random_net(&mut random, FINE_SIDE);
     let file = write_file(&net);
     read_file(&file, &net);
 }

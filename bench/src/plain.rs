@@ -4,7 +4,7 @@
 
 use crate::record::{numbers, POINT_RECORD, RECORD};
 
-const LIMIT: i32 = 16_777_216;
+pub const LIMIT: i32 = 16_777_216;
 const EDGE: usize = 1024;
 const BEZIER_NUMBERS: usize = 57;
 const POINT_NUMBERS: usize = 3;

@@ -7,7 +7,11 @@ use std::{array, mem};
 
 pub type Size = (usize, usize);
 
-type Triangle = [Control; 3];
+pub type Triangle = [Control; 3];
+
+/// The rule for a row of the refined net. It gets the net, its width, the row's number and where
+/// the row is written.
+pub type Row = fn(&[Triangle], usize, usize, &mut [Triangle]);
 
 /// The weights over 12 of a1 a2 a3 b1 b2 b3 in each control point of a vertex: kept, and new on
 /// an edge along e1, e2, e3. A kept vertex has no b.
@@ -18,39 +22,18 @@ const WEIGHTS: [[[i64; 6]; 3]; 4] = [
     [[3, 0, 6, 3, 0, 0], [0, 3, 6, 0, 3, 0], [0, 0, 0, 6, 6, 0]],
 ];
 
-#[inline(never)]
-pub fn by_table(
-    net: &[i32],
-    size: Size,
-    k: usize,
-    out: &mut [i32],
-    scratch: &mut [i32],
-) -> Result<(), Refusal> {
-    refine(net, size, k, out, scratch, table_step)
-}
-
-#[inline(never)]
-pub fn by_kind(
-    net: &[i32],
-    size: Size,
-    k: usize,
-    out: &mut [i32],
-    scratch: &mut [i32],
-) -> Result<(), Refusal> {
-    refine(net, size, k, out, scratch, kind_step)
-}
-
 pub fn refined((w, h): Size, k: usize) -> Size {
     (((w - 1) << k) + 1, ((h - 1) << k) + 1)
 }
 
-fn refine(
+#[inline(never)]
+pub fn refine(
     net: &[i32],
     size: Size,
     k: usize,
     out: &mut [i32],
     scratch: &mut [i32],
-    step: impl Fn(&[Triangle], Size, &mut [Triangle]),
+    row: Row,
 ) -> Result<(), Refusal> {
     check_size(size.0, size.1)?;
     if k > 6 {
@@ -77,35 +60,40 @@ fn refine(
     } else {
         (scratch, out)
     };
-    step(triangles(net), size, to);
+    step(triangles(net), size, to, row);
     for done in 1..k {
         mem::swap(&mut to, &mut from);
-        step(from, refined(size, done), to);
+        step(from, refined(size, done), to, row);
     }
     Ok(())
 }
 
-fn triangles(net: &[i32]) -> &[Triangle] {
-    net.as_chunks().0.as_chunks().0
+/// The numbers by vertex and control point, of a net or of details.
+pub fn triangles<const N: usize>(numbers: &[i32]) -> &[[[i32; N]; 3]] {
+    numbers.as_chunks().0.as_chunks().0
 }
 
-fn triangles_mut(net: &mut [i32]) -> &mut [Triangle] {
-    net.as_chunks_mut().0.as_chunks_mut().0
+pub fn triangles_mut<const N: usize>(numbers: &mut [i32]) -> &mut [[[i32; N]; 3]] {
+    numbers.as_chunks_mut().0.as_chunks_mut().0
 }
 
-fn table_step(net: &[Triangle], (w, h): Size, out: &mut [Triangle]) {
-    let (wide, high) = refined((w, h), 1);
-    for (y, row) in out.chunks_exact_mut(wide).take(high).enumerate() {
-        for (x, target) in row.iter_mut().enumerate() {
-            let vertex = y / 2 * w + x / 2;
-            let (kind, a, b) = match (x % 2, y % 2) {
-                (0, 0) => (0, vertex, vertex),
-                (1, 0) => (1, vertex, vertex + 1),
-                (1, _) => (2, vertex + 1, vertex + w),
-                _ => (3, vertex + w, vertex),
-            };
-            *target = weighted(&WEIGHTS[kind], &net[a], &net[b]);
-        }
+fn step(net: &[Triangle], size: Size, out: &mut [Triangle], row: Row) {
+    let (wide, high) = refined(size, 1);
+    for (y, target) in out.chunks_exact_mut(wide).take(high).enumerate() {
+        row(net, size.0, y, target);
+    }
+}
+
+pub fn table_row(net: &[Triangle], w: usize, y: usize, out: &mut [Triangle]) {
+    for (x, target) in out.iter_mut().enumerate() {
+        let vertex = y / 2 * w + x / 2;
+        let (kind, a, b) = match (x % 2, y % 2) {
+            (0, 0) => (0, vertex, vertex),
+            (1, 0) => (1, vertex, vertex + 1),
+            (1, _) => (2, vertex + 1, vertex + w),
+            _ => (3, vertex + w, vertex),
+        };
+        *target = weighted(&WEIGHTS[kind], &net[a], &net[b]);
     }
 }
 
@@ -122,16 +110,13 @@ fn weighted(weights: &[[i64; 6]; 3], a: &Triangle, b: &Triangle) -> Triangle {
 
 /// Even rows hold kept vertices and those on edges along e1, odd rows those on edges along e3
 /// and e2.
-fn kind_step(net: &[Triangle], (w, h): Size, out: &mut [Triangle]) {
-    let (wide, _) = refined((w, h), 1);
-    let rows = || net.chunks_exact(w).take(h);
-    let mut targets = out.chunks_exact_mut(wide);
-    let mut next = || targets.next().expect("the output holds the refined net");
-    for (low, high) in rows().zip(rows().skip(1)) {
-        even_row(low, next());
-        odd_row(low, high, next());
+pub fn kind_row(net: &[Triangle], w: usize, y: usize, out: &mut [Triangle]) {
+    let (low, above) = net[y / 2 * w..].split_at(w);
+    if y.is_multiple_of(2) {
+        even_row(low, out);
+    } else {
+        odd_row(low, &above[..w], out);
     }
-    even_row(&net[(h - 1) * w..h * w], next());
 }
 
 fn even_row(row: &[Triangle], out: &mut [Triangle]) {

@@ -1,9 +1,12 @@
 //! A call described as data, so that faults can be put into it one by one and the library and
 //! the oracle get the same question.
 
-use crate::kernel::{LentFile, LentNet, RefinedPoint, Room};
+use crate::kernel::{self, LentDetails, LentFile, LentNet, RefinedPoint, Room};
+use crate::multiresolution::{self, Split};
 use crate::netfile::{self, FileNet};
+use crate::nets::{self, Numbers};
 use crate::oracle::{self, Faults, POINT_NUMBERS};
+use crate::random::Random;
 use crate::refinement;
 use std::fmt;
 
@@ -40,6 +43,13 @@ pub enum Ask {
         scratch_len: usize,
         point_len: usize,
     },
+    Split {
+        details_len: usize,
+    },
+    Merge,
+    Clean {
+        t: u32,
+    },
 }
 
 impl Ask {
@@ -59,9 +69,16 @@ impl Ask {
             point_len: POINT_NUMBERS,
         }
     }
+
+    /// With room for the details, up to `MOST`.
+    pub fn split(size: (usize, usize)) -> Self {
+        let details_len = lent_len(multiresolution::details_len(size));
+        Ask::Split { details_len }
+    }
 }
 
-/// Each call; those that name a vertex, a triangle or a place on the first up triangle.
+/// Each call that takes a net of any size; those that name a vertex, a triangle or a place on
+/// the first up triangle.
 pub const ASKS: [Ask; 7] = [
     Ask::Vertex { i: 0, j: 0 },
     Ask::Bezier {
@@ -95,11 +112,15 @@ fn lent_len(needed: Option<usize>) -> usize {
 
 #[derive(Clone)]
 pub struct Call {
+    /// For merge the coarse net, for clean the details.
     pub net: Vec<i32>,
     pub w: usize,
     pub h: usize,
     pub ask: Ask,
+    /// For split the length of the output for the coarse net, for clean unused.
     pub out_len: usize,
+    /// Empty but for merge.
+    pub details: Vec<i32>,
 }
 
 #[derive(Clone, Debug, PartialEq, Eq)]
@@ -110,19 +131,50 @@ pub enum Answer {
     Bytes(Vec<u8>),
     DoubleBits(Vec<u64>),
     Refined(RefinedPoint),
+    Split(Split),
+}
+
+impl Answer {
+    /// 0 for none.
+    pub fn refusal(&self) -> u32 {
+        match self {
+            Answer::Refused(number) => *number,
+            _ => 0,
+        }
+    }
+
+    /// The answer of a call that writes numbers.
+    pub fn numbers(self) -> Result<Vec<i32>, u32> {
+        match self {
+            Answer::Numbers(numbers) => Ok(numbers),
+            Answer::Refused(number) => Err(number),
+            other => panic!("no numbers: {other:?}"),
+        }
+    }
+
+    /// The answer of split.
+    pub fn split(self) -> Result<Split, u32> {
+        match self {
+            Answer::Split(split) => Ok(split),
+            Answer::Refused(number) => Err(number),
+            other => panic!("no split: {other:?}"),
+        }
+    }
 }
 
 // The net itself would be too long in a message.
 impl fmt::Debug for Call {
     fn fmt(&self, to: &mut fmt::Formatter) -> fmt::Result {
         let (len, w, h) = (self.net.len(), self.w, self.h);
-        let (ask, out_len) = (self.ask, self.out_len);
-        write!(to, "{ask:?} on {w} by {h}, {len} numbers, output {out_len}")
+        let (ask, out_len, details) = (self.ask, self.out_len, self.details.len());
+        write!(to, "{ask:?} on {w} by {h}, {len} numbers, output {out_len}")?;
+        write!(to, ", {details} details")
     }
 }
 
 impl Call {
-    /// A call on the whole net with an output as long as the result, up to `MOST`.
+    /// A call on the whole net with an output as long as the result, up to `MOST`. What is
+    /// merged are details of zero.
     pub fn new(net: &[i32], (w, h): (usize, usize), ask: Ask) -> Self {
         let out_len = match ask {
             Ask::Vertex { .. } => 0,
@@ -132,15 +184,45 @@ impl Call {
             Ask::Refine { k, .. } | Ask::RefinedPoint { k, .. } => {
                 lent_len(refinement::refined_len((w, h), k))
             }
+            Ask::Split { .. } => lent_len(multiresolution::coarse_len((w, h))),
+            Ask::Merge => lent_len(refinement::refined_len((w, h), 1)),
+            Ask::Clean { .. } => 0,
         };
-        let net = net.to_vec();
+        let details_len = match ask {
+            Ask::Merge => lent_len(multiresolution::merged_details_len((w, h))),
+            _ => 0,
+        };
         Call {
-            net,
+            net: net.to_vec(),
             w,
             h,
             ask,
             out_len,
+            details: vec![0; details_len],
         }
+    }
+
+    /// Merges these details with the whole coarse net.
+    pub fn merge(coarse: &[i32], details: &[i32], size: (usize, usize)) -> Self {
+        let details = details.to_vec();
+        Call {
+            details,
+            ..Call::new(coarse, size, Ask::Merge)
+        }
+    }
+
+    /// Calls of split, merge and clean that are accepted, on small numbers; the size is the
+    /// coarse net's.
+    pub fn multiresolution(random: &mut Random, size: (usize, usize)) -> [Self; 3] {
+        let fine = refinement::refined_size(size, 1).expect("a size");
+        let net = nets::random_net(random, fine, Numbers::Small);
+        let coarse = nets::random_net(random, size, Numbers::Small);
+        let details = nets::random_details(random, fine, 50);
+        [
+            Call::new(&net, fine, Ask::split(fine)),
+            Call::merge(&coarse, &details, size),
+            Call::new(&details, fine, Ask::Clean { t: 20 }),
+        ]
     }
 
     /// The call's conditions of refusal in their order.
@@ -175,6 +257,11 @@ impl Call {
                 scratch_len,
                 point_len,
             ),
+            Ask::Split { details_len } => {
+                multiresolution::split_faults(net, size, self.out_len, details_len)
+            }
+            Ask::Merge => multiresolution::merge_faults(net, &self.details, size, self.out_len),
+            Ask::Clean { t } => multiresolution::clean_faults(net, size, t),
         }
     }
 
@@ -201,6 +288,16 @@ impl Call {
                 let point = refinement::point_of(&refined, size, (p, q));
                 (refined, point)
             })),
+            Ask::Split { details_len } => {
+                split_answer(multiresolution::split(net, size, self.out_len, details_len))
+            }
+            Ask::Merge => list_answer(multiresolution::merge(
+                net,
+                &self.details,
+                size,
+                self.out_len,
+            )),
+            Ask::Clean { t } => list_answer(multiresolution::clean(net, size, t)),
         }
     }
 
@@ -234,6 +331,12 @@ impl Call {
                 let room = Room::new(self.out_len, scratch_len);
                 refined_answer(net.refined_point(size, k, (p, q), room, point_len))
             }
+            Ask::Split { details_len } => split_answer(net.split(size, self.out_len, details_len)),
+            Ask::Merge => {
+                let details = LentDetails::new(&self.details);
+                list_answer(net.merge(&details, size, self.out_len))
+            }
+            Ask::Clean { t } => list_answer(kernel::clean(net.numbers(), size, t)),
         }
     }
 
@@ -246,11 +349,7 @@ impl Call {
 
     /// Checks the answer and expects this refusal, 0 for none.
     pub fn expect(&self, refusal: u32) {
-        let number = match self.check() {
-            Answer::Refused(number) => number,
-            _ => 0,
-        };
-        assert_eq!(number, refusal, "{self:?}");
+        assert_eq!(self.check().refusal(), refusal, "{self:?}");
     }
 }
 
@@ -277,6 +376,10 @@ fn refined_answer(answer: Result<RefinedPoint, u32>) -> Answer {
         Ok(refined) => Answer::Refined(refined),
         Err(number) => Answer::Refused(number),
     }
+}
+
+fn split_answer(answer: Result<Split, u32>) -> Answer {
+    answer.map_or_else(Answer::Refused, Answer::Split)
 }
 
 fn bits_answer<const N: usize>(answer: Result<[u64; N], u32>) -> Answer {

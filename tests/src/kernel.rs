@@ -1,10 +1,11 @@
 //! The library's calls with guarded memory.
 //!
 //! Every lent slice lies between canary values. After each call the wrappers assert that the
-//! canaries and the net or file are unchanged, that a refusal left every output unchanged bit
-//! for bit, and that an accepted call left everything behind its result, and behind what is free
-//! of a scratch, unchanged.
+//! canaries and every input are unchanged, that a refusal left every output, and the details
+//! lent to clean, unchanged bit for bit, and that an accepted call left everything behind its
+//! result, and behind what is free of a scratch, unchanged.
 
+use crate::multiresolution::{self, Split};
 use crate::netfile::FileNet;
 use crate::oracle::{BEZIER_NUMBERS, POINT_NUMBERS};
 use crate::pages::{Pages, Side};
@@ -67,11 +68,11 @@ impl Number for f64 {
 /// What lies at each position of a lent output and of its guards before the call.
 pub type Junk<T> = fn(usize) -> T;
 
-/// A lent output.
+/// A lent output, with what lay there before the call.
 struct Output<T> {
     memory: Vec<T>,
+    before: Vec<T>,
     len: usize,
-    junk: Junk<T>,
 }
 
 impl<T: Number> Output<T> {
@@ -81,10 +82,20 @@ impl<T: Number> Output<T> {
     }
 
     fn over(len: usize, junk: Junk<T>) -> Self {
+        Self::guarded((0..len + 2 * GUARD).map(junk).collect())
+    }
+
+    /// Filled with these numbers.
+    fn holding(numbers: &[T]) -> Self {
+        Self::guarded(between_canaries(numbers))
+    }
+
+    /// The memory with its guards.
+    fn guarded(memory: Vec<T>) -> Self {
         Output {
-            memory: (0..len + 2 * GUARD).map(junk).collect(),
-            len,
-            junk,
+            before: memory.clone(),
+            len: memory.len() - 2 * GUARD,
+            memory,
         }
     }
 
@@ -97,8 +108,8 @@ impl<T: Number> Output<T> {
         let written = if refusal == 0 { count } else { 0 };
         assert!(written <= self.len, "accepted with a short output");
         let result = GUARD..GUARD + written;
-        for (position, x) in self.memory.iter().enumerate() {
-            if !result.contains(&position) && x.bits() != (self.junk)(position).bits() {
+        for (position, (x, before)) in self.memory.iter().zip(&self.before).enumerate() {
+            if !result.contains(&position) && x.bits() != before.bits() {
                 let at = position as i64 - GUARD as i64;
                 panic!("refusal {refusal}: output position {at} changed");
             }
@@ -113,6 +124,18 @@ impl<T: Number> Output<T> {
         let front = self.front(refusal, N)?;
         Ok(std::array::from_fn(|n| front[n]))
     }
+}
+
+fn between_canaries<T: Number>(numbers: &[T]) -> Vec<T> {
+    let mut memory: Vec<T> = (0..GUARD).map(T::canary).collect();
+    memory.extend_from_slice(numbers);
+    memory.extend((0..GUARD).map(T::canary));
+    memory
+}
+
+/// A count of numbers in an output; without a length no output is long enough.
+fn count(needed: Option<usize>) -> usize {
+    needed.unwrap_or(usize::MAX)
 }
 
 /// The lengths of `out` and of the scratch lent to a refinement, and what lies there before.
@@ -156,8 +179,6 @@ impl Refining {
 
     /// The refined net when accepted. The scratch numbers that are free are not looked at.
     fn result(&self, refusal: u32, size: (usize, usize), k: usize) -> Result<Vec<i32>, u32> {
-        // Without a length no output is long enough.
-        let count = |needed: Option<usize>| needed.unwrap_or(usize::MAX);
         let scratch_len = count(refinement::scratch_len(size, k));
         let refined_len = count(refinement::refined_len(size, k));
         // Both are checked before a refusal is handed back.
@@ -183,17 +204,15 @@ pub struct Lent<T> {
 }
 
 pub type LentNet = Lent<i32>;
+pub type LentDetails = Lent<i32>;
 pub type LentFile = Lent<u8>;
 
 impl<T: Number + PartialEq> Lent<T> {
     /// Lends the numbers between canary values.
     pub fn new(numbers: &[T]) -> Self {
-        let mut memory: Vec<T> = (0..GUARD).map(T::canary).collect();
-        memory.extend_from_slice(numbers);
-        memory.extend((0..GUARD).map(T::canary));
         Lent {
             numbers: numbers.to_vec(),
-            memory: Memory::Canaries(RefCell::new(memory)),
+            memory: Memory::Canaries(RefCell::new(between_canaries(numbers))),
         }
     }
 
@@ -203,6 +222,10 @@ impl<T: Number + PartialEq> Lent<T> {
             numbers: numbers.to_vec(),
             memory: Memory::Pages(Pages::new(numbers, side)),
         }
+    }
+
+    pub fn numbers(&self) -> &[T] {
+        &self.numbers
     }
 
     fn pointer(&self) -> *const T {
@@ -357,6 +380,58 @@ impl LentNet {
         let point = point.result(refusal);
         Ok((lent.result(refusal, (w, h), k)?, point?))
     }
+
+    /// The coarse net and the details of the net.
+    pub fn split(
+        &self,
+        (w, h): (usize, usize),
+        coarse_len: usize,
+        details_len: usize,
+    ) -> Result<Split, u32> {
+        let mut coarse = Output::<i32>::new(coarse_len);
+        let mut details = Output::<i32>::new(details_len);
+        let (net, len) = (self.pointer(), self.numbers.len());
+        let (to, rest) = (coarse.pointer(), details.pointer());
+        // SAFETY: `len`, `coarse_len` and `details_len` numbers are lent.
+        let refusal = unsafe { raw::ups_split(net, len, w, h, to, coarse_len, rest, details_len) };
+        self.check();
+        // Both are checked before a refusal is handed back.
+        let coarse = coarse.front(refusal, count(multiresolution::coarse_len((w, h))));
+        let details = details.front(refusal, count(multiresolution::details_len((w, h))));
+        Ok(Split {
+            coarse: coarse?.to_vec(),
+            details: details?.to_vec(),
+        })
+    }
+
+    /// The numbers of the net that this coarse net and the details make.
+    pub fn merge(
+        &self,
+        details: &LentDetails,
+        (w, h): (usize, usize),
+        out_len: usize,
+    ) -> Result<Vec<i32>, u32> {
+        let mut out = Output::<i32>::new(out_len);
+        let (coarse, len) = (self.pointer(), self.numbers.len());
+        let (rest, details_len) = (details.pointer(), details.numbers.len());
+        let to = out.pointer();
+        // SAFETY: `len`, `details_len` and `out_len` numbers are lent.
+        let refusal = unsafe { raw::ups_merge(coarse, len, rest, details_len, w, h, to, out_len) };
+        self.check();
+        details.check();
+        let merged = out.front(refusal, count(refinement::refined_len((w, h), 1)))?;
+        Ok(merged.to_vec())
+    }
+}
+
+/// The details of a net of this size after cleaning. What is lent is a copy of them.
+pub fn clean(details: &[i32], (w, h): (usize, usize), t: u32) -> Result<Vec<i32>, u32> {
+    let mut lent = Output::holding(details);
+    let (to, len) = (lent.pointer(), details.len());
+    // SAFETY: `len` numbers are lent.
+    let refusal = unsafe { raw::ups_clean(to, len, w, h, t) };
+    let cleaned = lent.front(refusal, count(multiresolution::details_len((w, h))))?;
+    Ok(cleaned.to_vec())
 }
 
 impl LentFile {

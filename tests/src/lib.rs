@@ -1,16 +1,20 @@
 //! Tests of the library `ups` against exact rational arithmetic.
 //!
-//! `oracle` writes the definitions down in exact rationals, `refinement` those of refinement
-//! and `netfile` those of the net file, `kernel` calls the library with guarded memory, `call`
-//! asks both the same question. `record` alone says how many numbers a net has for a control
-//! point and for a vertex. A further subject of the library gets its own definitions in
-//! `oracle` or a module of its own, its own wrapper in `kernel` and a case of `call::Ask`.
+//! `oracle` writes the definitions down in exact rationals, `refinement` those of refinement,
+//! `multiresolution` those of split, merge and clean and `netfile` those of the net file,
+//! `kernel` calls the library with guarded memory, `call` asks both the same question, `order`
+//! puts several faults into a call. `record` alone says how many numbers a net has for a control
+//! point and for a vertex, and how many details there are for a vertex. A further subject of the
+//! library gets its own definitions in `oracle` or a module of its own, its own wrapper in
+//! `kernel` and a case of `call::Ask`.
 
 pub mod call;
 pub mod kernel;
+pub mod multiresolution;
 pub mod netfile;
 pub mod nets;
 pub mod oracle;
+pub mod order;
 pub mod pages;
 pub mod random;
 pub mod rational;

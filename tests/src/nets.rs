@@ -2,7 +2,7 @@
 
 use crate::oracle::LIMIT;
 use crate::random::Random;
-use crate::record::{self, Control};
+use crate::record::{self, Control, POINT_RECORD};
 
 /// The door corner, 2 by 2, with the given z of c1 of vertex (0, 0).
 pub fn door_corner(z: i32) -> Vec<i32> {
@@ -59,6 +59,36 @@ pub fn random_net(random: &mut Random, size: (usize, usize), numbers: Numbers) -
 /// Sides of 2 to 9 vertices.
 pub fn random_size(random: &mut Random) -> (usize, usize) {
     (2 + random.below(8), 2 + random.below(8))
+}
+
+/// Odd sides of 3 to 11 vertices, which split takes.
+pub fn random_odd_size(random: &mut Random) -> (usize, usize) {
+    (3 + 2 * random.below(5), 3 + 2 * random.below(5))
+}
+
+/// The control points of a vertex within `spread` of a random one, so that a net of great
+/// numbers can be split.
+pub fn near_net(
+    random: &mut Random,
+    (w, h): (usize, usize),
+    numbers: Numbers,
+    spread: i32,
+) -> Vec<i32> {
+    let mut net = Vec::with_capacity(record::numbers((w, h)));
+    for _ in 0..w * h {
+        let centre = [0; POINT_RECORD].map(|_| random_number(random, numbers));
+        for _ in 0..3 {
+            let near = |x: i32| (x + random.between(-spread, spread)).clamp(-LIMIT, LIMIT);
+            net.extend(centre.map(near));
+        }
+    }
+    net
+}
+
+/// Details of a net of the given size, up to `most` in size.
+pub fn random_details(random: &mut Random, size: (usize, usize), most: i32) -> Vec<i32> {
+    let numbers = 0..record::details(size);
+    numbers.map(|_| random.between(-most, most)).collect()
 }
 
 /// At least 100 places of a net of the given size.

@@ -151,8 +151,7 @@ impl<'a> Net<'a> {
     }
 
     pub(crate) fn control(&self, at: Vertex, k: usize) -> Point {
-        let numbers = &self.vertex(at)[POINT_RECORD * (k - 1)..POINT_RECORD * k];
-        [numbers[0].into(), numbers[1].into(), numbers[2].into()]
+        control(self.vertex(at), k)
     }
 
     /// The exact spline at a place, taken from the given triangle.
@@ -177,6 +176,16 @@ impl<'a> Net<'a> {
             *all.iter().max().expect("nine values"),
         )
     }
+}
+
+/// A control point of a vertex, which has these numbers.
+pub(crate) fn control(vertex: &[i32], k: usize) -> Point {
+    point(&vertex[POINT_RECORD * (k - 1)..POINT_RECORD * k])
+}
+
+/// The point of which these numbers are x, y, z.
+pub(crate) fn point(numbers: &[i32]) -> Point {
+    [numbers[0].into(), numbers[1].into(), numbers[2].into()]
 }
 
 fn vertex_start(w: usize, at: Vertex) -> usize {
@@ -321,7 +330,7 @@ impl Patch {
 }
 
 /// Each coordinate rounded once: the surface point for an exact value, a control point for its
-/// refined value.
+/// refined or coarse value.
 pub fn rounded(exact: Point) -> [i32; 3] {
     exact.map(|x| i32::try_from(x.rounded()).expect("a rounded point fits 32 bits"))
 }

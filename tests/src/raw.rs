@@ -84,4 +84,25 @@ extern "C" {
         point: *mut i32,
         point_len: usize,
     ) -> u32;
+    pub fn ups_split(
+        net: *const i32,
+        net_len: usize,
+        w: usize,
+        h: usize,
+        coarse: *mut i32,
+        coarse_len: usize,
+        details: *mut i32,
+        details_len: usize,
+    ) -> u32;
+    pub fn ups_merge(
+        coarse: *const i32,
+        coarse_len: usize,
+        details: *const i32,
+        details_len: usize,
+        w: usize,
+        h: usize,
+        out: *mut i32,
+        out_len: usize,
+    ) -> u32;
+    pub fn ups_clean(details: *mut i32, details_len: usize, w: usize, h: usize, t: u32) -> u32;
 }

@@ -1,9 +1,11 @@
-//! The numbers of a lent net, declared once for the tests and the benchmark.
+//! The numbers of a lent net and of lent details, declared once for the tests and the benchmark.
 
 /// Numbers of a control point: x, y, z.
 pub const POINT_RECORD: usize = 3;
 /// Numbers of a vertex, which has three control points.
 pub const RECORD: usize = 3 * POINT_RECORD;
+/// Details of a vertex: x, y, z of three control points, whatever else a net stores for them.
+pub const DETAIL_RECORD: usize = 9;
 
 /// A control point as a net stores it.
 pub type Control = [i32; POINT_RECORD];
@@ -11,4 +13,9 @@ pub type Control = [i32; POINT_RECORD];
 /// The count of numbers of a net of this size.
 pub const fn numbers((w, h): (usize, usize)) -> usize {
     RECORD * w * h
+}
+
+/// The count of details of a net of this size.
+pub const fn details((w, h): (usize, usize)) -> usize {
+    DETAIL_RECORD * w * h
 }

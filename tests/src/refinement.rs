@@ -73,7 +73,7 @@ fn halving(net: &Net, at: Vertex) -> [Point; 3] {
 }
 
 /// The numbers of the net after one step.
-fn one_step(net: &Net) -> Vec<i32> {
+pub(crate) fn one_step(net: &Net) -> Vec<i32> {
     let (w, h) = refined_size((net.w, net.h), 1).expect("a size");
     let mut numbers = Vec::with_capacity(record::numbers((w, h)));
     for j in 0..h as i128 {
@@ -101,11 +101,11 @@ pub fn refined(net: &[i32], size: (usize, usize), k: usize) -> Vec<i32> {
     numbers
 }
 
-fn too_fine(size: (usize, usize), k: usize) -> bool {
+pub(crate) fn too_fine(size: (usize, usize), k: usize) -> bool {
     refined_size(size, k).is_none_or(|(w, h)| w > MOST_SIDE || h > MOST_SIDE)
 }
 
-fn too_short(len: usize, needed: Option<usize>) -> bool {
+pub(crate) fn too_short(len: usize, needed: Option<usize>) -> bool {
     needed.is_none_or(|needed| len < needed)
 }
 

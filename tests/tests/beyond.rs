@@ -1,7 +1,9 @@
-//! Numbers beyond the last vertex of the net are neither read nor changed.
+//! Numbers beyond the last vertex of the net, and details beyond it, are neither read nor
+//! changed.
 
 use ups_tests::call::{Answer, Ask, Call};
-use ups_tests::kernel::LentNet;
+use ups_tests::kernel::{LentDetails, LentNet};
+use ups_tests::multiresolution::DETAIL_LIMIT;
 use ups_tests::nets::{self, Numbers, NUMBERS};
 use ups_tests::oracle::LIMIT;
 use ups_tests::pages::Side;
@@ -104,6 +106,58 @@ fn fewer_rows_of_a_longer_net() {
                 call.expect(0);
             }
             numbers = nets::random_net(&mut random, (w, h), NUMBERS[round % 4]);
+        }
+    }
+}
+
+/// Numbers and details in range and beyond it behind those that count. For clean the wrapper
+/// asserts that they stay.
+#[test]
+fn junk_beyond_nets_and_details_of_split_merge_and_clean() {
+    let mut random = Random::new(75);
+    // Ones would be cleaned.
+    let junk = [1, -1, LIMIT + 1, -DETAIL_LIMIT - 1, i32::MIN, i32::MAX];
+    for _ in 0..40 {
+        let size = (2 + random.below(4), 2 + random.below(4));
+        for call in Call::multiresolution(&mut random, size) {
+            let answer = call.check();
+            assert_eq!(answer.refusal(), 0, "{call:?}");
+            for (more, more_details) in [(1, 0), (0, 1), (RECORD, RECORD), (100, 7), (7, 100)] {
+                let mut longer = call.clone();
+                let net = (0..more).map(|_| random.pick(&junk));
+                longer.net.extend(net);
+                let details = (0..more_details).map(|_| random.pick(&junk));
+                longer.details.extend(details);
+                assert_eq!(longer.check(), answer, "{longer:?}");
+            }
+        }
+    }
+}
+
+/// The inputs of split and merge next to an inaccessible page, of the exact lengths and, for a
+/// refusal, one number shorter.
+#[test]
+fn nothing_outside_the_inputs_of_split_and_merge_is_read() {
+    let mut random = Random::new(76);
+    for _ in 0..40 {
+        let size = (2 + random.below(4), 2 + random.below(4));
+        let [split, merge, _] = Call::multiresolution(&mut random, size);
+        for side in [Side::Front, Side::End] {
+            let net = LentNet::in_pages(&split.net, side);
+            assert_eq!(split.of_kernel(&net), split.of_oracle(), "{split:?}");
+            let shorter = |numbers: &[i32]| LentNet::in_pages(&numbers[1..], side);
+            let refused = Answer::Refused(2);
+            assert_eq!(split.of_kernel(&shorter(&split.net)), refused, "{split:?}");
+            let coarse = LentNet::in_pages(&merge.net, side);
+            let details = LentDetails::in_pages(&merge.details, side);
+            let merged = coarse.merge(&details, size, merge.out_len);
+            assert_eq!(merged, merge.of_oracle().numbers(), "{merge:?}");
+            let short_details = shorter(&merge.details);
+            let short_coarse = shorter(&merge.net);
+            for (coarse, details) in [(&short_coarse, &details), (&coarse, &short_details)] {
+                let answer = coarse.merge(details, size, merge.out_len);
+                assert_eq!(answer, Err(2), "{merge:?}");
+            }
         }
     }
 }

@@ -162,6 +162,38 @@ fn refined_halves_go_upwards_on_both_sides_of_zero() {
     }
 }
 
+/// A kept control triangle at vertex (0, 0) of a flat net.
+#[test]
+fn coarse_z_of_kept_control_triangles() {
+    let fine = (3, 3);
+    for (kept, coarse) in [([80, 20, 20], [120, 0, 0]), ([0, 1, 1], [-1, 1, 1])] {
+        let mut net = vec![0; record::numbers(fine)];
+        for (k, z) in kept.into_iter().enumerate() {
+            net[POINT_RECORD * k + 2] = z;
+        }
+        let answer = Call::new(&net, fine, Ask::split(fine)).check();
+        let split = answer.split().expect("accepted");
+        let z = net_z(&split.coarse);
+        assert_eq!(z[..3], coarse, "{kept:?}");
+        assert!(z[3..].iter().all(|&z| z == 0), "{kept:?}");
+    }
+}
+
+/// Refining the door corner gives whole numbers, so nothing is left for the details.
+#[test]
+fn the_refined_door_corner_is_split_into_the_door_corner() {
+    for z in [120, -120] {
+        let net = door_corner(z);
+        let (fine, refined) = ((3, 3), refine(&net, 1));
+        let answer = Call::new(&refined, fine, Ask::split(fine)).check();
+        let split = answer.split().expect("accepted");
+        assert_eq!(split.coarse, net);
+        assert_eq!(split.details, [0; record::details((3, 3))]);
+        let merged = Call::merge(&split.coarse, &split.details, SIZE).check();
+        assert_eq!(merged, Answer::Numbers(refined));
+    }
+}
+
 #[test]
 fn bezier_net_of_the_up_triangle() {
     let numbers = bezier(&door_corner(120), 0);
@@ -278,6 +310,34 @@ fn examples_of_refusals() {
     for (out_len, refusal) in [(155, 5), (156, 0)] {
         write.out_len = out_len;
         write.expect(refusal);
+    }
+}
+
+#[test]
+fn examples_of_refusals_of_split_merge_and_clean() {
+    let fine = (3, 3);
+    let zeros = [0; record::details((4, 3))];
+    for ask in [Ask::split((4, 3)), Ask::Clean { t: 1 }] {
+        Call::new(&zeros, (4, 3), ask).expect(10);
+        Call::new(&zeros, fine, ask).expect(0);
+    }
+    for (t, refusal) in [(33_554_432, 0), (33_554_433, 12)] {
+        Call::new(&zeros, fine, Ask::Clean { t }).expect(refusal);
+    }
+    for (number, detail, refusal) in [
+        (16_777_216, 0, 0),
+        (16_777_215, 1, 0),
+        (16_777_216, 1, 11),
+        (-16_777_216, -1, 11),
+        (16_777_216, -33_554_432, 0),
+        (16_777_216, -33_554_433, 3),
+        (16_777_217, 0, 3),
+    ] {
+        let details = [detail; record::details((3, 3))];
+        Call::merge(&[number; NUMBERS], &details, SIZE).expect(refusal);
+    }
+    for ask in [Ask::split(fine), Ask::Clean { t: 1 }, Ask::Merge] {
+        Call::new(&zeros, (1, 3), ask).expect(1);
     }
 }
 

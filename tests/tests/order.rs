@@ -4,6 +4,7 @@ use ups_tests::call::{Ask, Call, ASKS};
 use ups_tests::netfile;
 use ups_tests::nets::{self, Numbers};
 use ups_tests::oracle::{self, LIMIT};
+use ups_tests::order::{self, Fault, Group};
 use ups_tests::random::Random;
 use ups_tests::record::{self, RECORD};
 use ups_tests::refinement;
@@ -14,18 +15,16 @@ const SIZE: (usize, usize) = (4, 3);
 /// great for them.
 const WIDE: (usize, usize) = (18, 2);
 const HIGH: (usize, usize) = (2, 18);
-const ORDER: [u32; 6] = [1, 4, 6, 2, 5, 3];
 
 type Size = (usize, usize);
-/// Puts one fault into a call.
-type Fault = fn(&mut Call);
 
 fn base((size, ask): (Size, Ask)) -> Call {
     let net = nets::random_net(&mut Random::new(61), size, Numbers::Mixed);
     Call::new(&net, size, ask)
 }
 
-/// Each call; those that refine with one step and with two as well, where they need a scratch.
+/// Each call on a net of any size; those that refine with one step and with two as well, where
+/// they need a scratch.
 fn bases() -> Vec<(Size, Ask)> {
     let mut bases: Vec<(Size, Ask)> = ASKS.map(|ask| (SIZE, ask)).to_vec();
     for (size, k) in [(SIZE, 1), (WIDE, 2), (HIGH, 2)] {
@@ -52,22 +51,16 @@ fn lengthen(call: &mut Call) {
 }
 
 fn size_faults() -> Vec<Fault> {
-    vec![
-        |c| c.w = 0,
-        |c| c.w = 1,
-        |c| c.w = MAX,
-        |c| c.h = 0,
-        |c| c.h = 1,
-        |c| c.h = MAX,
-        |c| {
-            c.w = 1026;
-            lengthen(c);
-        },
-        |c| {
-            c.h = 1026;
-            lengthen(c);
-        },
-    ]
+    let mut faults = order::SIDES.to_vec();
+    faults.push(|c| {
+        c.w = 1026;
+        lengthen(c);
+    });
+    faults.push(|c| {
+        c.h = 1026;
+        lengthen(c);
+    });
+    faults
 }
 
 fn set_steps(call: &mut Call, steps: usize) {
@@ -101,7 +94,7 @@ fn column(call: &mut Call, beyond: fn(usize) -> usize) {
         Ask::Bezier { i, .. } => *i = beyond(w.wrapping_sub(1)),
         Ask::Surface { p, .. } | Ask::View { p, .. } => *p = beyond(beyond_grid(w, 0)),
         Ask::RefinedPoint { p, k, .. } => *p = beyond(beyond_grid(w, *k)),
-        Ask::Write { .. } | Ask::Refine { .. } => {}
+        _ => {}
     }
 }
 
@@ -112,7 +105,7 @@ fn row(call: &mut Call, beyond: fn(usize) -> usize) {
         Ask::Bezier { j, .. } => *j = beyond(h.wrapping_sub(1)),
         Ask::Surface { q, .. } | Ask::View { q, .. } => *q = beyond(beyond_grid(h, 0)),
         Ask::RefinedPoint { q, k, .. } => *q = beyond(beyond_grid(h, *k)),
-        Ask::Write { .. } | Ask::Refine { .. } => {}
+        _ => {}
     }
 }
 
@@ -195,7 +188,7 @@ fn number_faults() -> Vec<Fault> {
 
 /// The faults of a call in the order in which they are put in: a later one may depend on what
 /// an earlier one left.
-fn faults((size, ask): (Size, Ask)) -> Vec<(u32, Vec<Fault>)> {
+fn faults((size, ask): (Size, Ask)) -> Vec<Group> {
     let mut faults = vec![
         (1, size_faults()),
         (4, step_faults(size)),
@@ -208,85 +201,35 @@ fn faults((size, ask): (Size, Ask)) -> Vec<(u32, Vec<Fault>)> {
         Ask::Vertex { .. } => &[1, 6, 2],
         Ask::Write { .. } => &[1, 2, 5, 3],
         Ask::Refine { .. } => &[1, 4, 2, 5, 3],
-        Ask::RefinedPoint { .. } => &ORDER,
+        Ask::RefinedPoint { .. } => &[1, 4, 6, 2, 5, 3],
         _ => &[1, 6, 2, 5, 3],
     };
     faults.retain(|(number, _)| numbers.contains(number));
     faults
 }
 
-/// Every choice of one fault for each of the numbers.
-fn choices(groups: &[&(u32, Vec<Fault>)]) -> Vec<Vec<Fault>> {
-    let mut all = vec![Vec::new()];
-    for (_, group) in groups {
-        let longer = |chosen: &Vec<Fault>| {
-            let with = |fault: &Fault| [&chosen[..], &[*fault]].concat();
-            group.iter().map(with).collect::<Vec<_>>()
-        };
-        all = all.iter().flat_map(longer).collect();
-    }
-    all
-}
-
-/// Applies each choice of faults with these numbers and expects the earliest number. Hands
-/// back whether in some call the conditions of all the numbers held together.
-fn check(of: (Size, Ask), groups: &[&(u32, Vec<Fault>)]) -> bool {
-    let numbers: Vec<u32> = groups.iter().map(|group| group.0).collect();
-    let first = ORDER.into_iter().find(|number| numbers.contains(number));
-    let start = base(of);
-    let mut together = false;
-    for chosen in choices(groups) {
-        let mut call = start.clone();
-        for fault in chosen {
-            fault(&mut call);
-        }
-        call.expect(first.unwrap_or(0));
-        let conditions = call.faults();
-        let holds = |number| conditions.contains(&(true, number));
-        together |= numbers.iter().all(|&number| holds(number));
-    }
-    together
-}
-
 #[test]
 fn each_fault_alone() {
     for of in bases() {
-        base(of).expect(0);
-        for group in &faults(of) {
-            assert!(check(of, &[group]));
-        }
+        order::check_alone(&base(of), &faults(of));
     }
 }
 
 #[test]
 fn each_pair_of_faults() {
     for of in bases() {
-        let faults = faults(of);
-        for (n, one) in faults.iter().enumerate() {
-            for other in &faults[n + 1..] {
-                let together = check(of, &[one, other]);
-                // A triangle that does not exist has no control points, so 6 and 3 do not
-                // occur together; the net is full of numbers beyond the range all the same.
-                // A net that is refined is looked at as a whole.
-                let apart = (one.0, other.0) == (6, 3) && !refines(of.1);
-                assert_eq!(together, !apart, "{of:?}: {} and {}", one.0, other.0);
-            }
-        }
+        // A triangle that does not exist has no control points, so 6 and 3 do not occur
+        // together; the net is full of numbers beyond the range all the same. A net that is
+        // refined is looked at as a whole.
+        let apart = |one, other| (one, other) == (6, 3) && !refines(of.1);
+        order::check_pairs(&base(of), &faults(of), apart);
     }
 }
 
 #[test]
 fn each_set_of_faults() {
     for of in bases() {
-        let faults = faults(of);
-        for set in 0..1 << faults.len() {
-            let in_set = |n: &usize| set >> n & 1 == 1;
-            let groups: Vec<_> = (0..faults.len())
-                .filter(in_set)
-                .map(|n| &faults[n])
-                .collect();
-            check(of, &groups);
-        }
+        order::check_sets(&base(of), &faults(of));
     }
 }
 

@@ -7,16 +7,14 @@ use mathlib.Core.Logic.{⊎-elim}
 use Prim.Native.Nat.{ℕ, zero, suc, _≤_, _<_}
 use native.Mathlib.Omega.{arith}
 use lib.Dec.{T, lit<}
-use lib.IntN.{ℤ, pos, negℤ, natAbs}
+use lib.IntN.{ℤ, pos, negℤ}
 use lib.ListN.{length, getD}
 use lib.Signed.{_≤ℤ_, leZ, ≤ℤ-refl}
-use borrow.Author.Tests.{ltb-false}
 use Rattle.exact.specs.Rounding.{rounded}
 use Rattle.exact.proofs.Order.{≤ℤ-trans, ≤ℤ-total, size-low, size-high, size-between}
-use Rattle.net.specs.Net.{Index, one, two, three, vertexAt, Field, numbers, start, field, stride}
-use Rattle.net.specs.Refusals.{AcceptedNet}
-use Rattle.net.proofs.Places.{good-size, vertex-ends, field-size}
-use Rattle.net.proofs.Ranges.{part-in-range}
+use Rattle.net.specs.Net.{Index, one, two, three, vertexAt, Field, field}
+use Rattle.net.proofs.Accepted.{accepted-vertex}
+use Rattle.net.proofs.Places.{good-size}
 use Rattle.triangles.specs.BezierPoints.{Controls, controlsOf, controlList}
 use Rattle.spline.specs.Spline.{spline}
 use Rattle.subdivision.specs.Refinement.{sideAfter}
@@ -81,22 +79,13 @@ demand-three net w h a k p q x c g =
 
 -- ---- refined numbers stay in the net range
 
-accepted-value : (net : List ℤ) (w h : ℕ) → AcceptedNet net w h → (x : ℕ) → x < 3 → (i j : ℕ) → i < w → j < h →
-    (l : Index) →
-    natAbs (field net w x (vertexAt i j) l) ≤ 16777216
-accepted-value net w h a x c i j u v l =
-    let s = start w (vertexAt i j) in
-    let ends = vertex-ends {w = w} {h = h} {i = i} {j = j} u v in
-    let long = ltb-false (length net) (numbers w h) (a .long) in
-    field-size net w (vertexAt i j) (part-in-range net w h s stride (a .inRange) ends) (omega (arith, ends, long)) l x c
-
 pub refined-in-range : RefinedInRange
 refined-in-range T e net w h a k i j x c u v l =
     let s = good-size w h (a .size) in
     let between = net-between T e (negℤ (pos 16777216)) (pos 16777216) k w h (field net w x) (s .wide) (s .high)
     (λ i j u v l.
     let z = field net w x (vertexAt i j) l in
-    let small = accepted-value net w h a x c i j u v l in
+    let small = accepted-vertex net w h a i j u v .1 l x c in
     (size-low z small, size-high z small))
     i j u v l in
     size-between (between .0) (between .1)

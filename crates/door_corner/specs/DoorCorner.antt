@@ -3,18 +3,19 @@
 use mathlib.Core.Path.{_≡_, refl}
 use mathlib.Core.Bool.{false}
 use mathlib.Core.List.{List, [], _∷_, _++_, map}
-use Prim.Native.Nat.{ℕ}
+use Prim.Native.Nat.{ℕ, _-_}
 use lib.IntN.{ℤ, pos, negsuc, _+ℤ_, _-ℤ_, _*ℤ_}
-use lib.ListN.{length}
+use lib.ListN.{length, replicate}
 use Rattle.exact.specs.Rounding.{rounded, floorQuotient}
 use Rattle.exact.specs.Filling.{runs}
-use Rattle.net.specs.Net.{one, two, three, vertexAt, triangleAt, controlPoint, controlTriangle, grid, field}
+use Rattle.net.specs.Net.{one, two, three, vertexAt, triangleAt, controlPoint, controlTriangle, grid, numbers, stride, field}
 use Rattle.triangles.specs.BezierPoints.{controlsOf}
 use Rattle.spline.specs.Spline.{spline}
 use Rattle.bezier.specs.BezierNet.{bezierPoints}
 use Rattle.surface.specs.SurfacePoint.{coordinate}
 use Rattle.subdivision.specs.Refinement.{refinement, exactRefinement}
 use Rattle.steps.specs.RefinedNet.{stored, refinedNet}
+use Rattle.split.specs.Split.{coarsened, coarseNet}
 use Rattle.words.specs.NetFile.{zKind, numberBytes, wordBytes}
 
 -- the nine numbers of vertex (i, j), where a = 1200i, b = 1200j and c1 has height z: 'x of c1, c2, c3 is 1200i + 600,
@@ -51,6 +52,15 @@ bezierZ z = bezierPoints false (controlsOf (field (doorCorner z) 2 2) (triangleA
 abbrev refinedZ : ℤ → ℕ → ℕ → List ℤ
 refinedZ z i j = map (field (refinedNet (doorCorner z) 2 2 1) 3 2 (vertexAt i j)) (one ∷ two ∷ three ∷ [])
 
+-- z of the coarse control triangle of a kept vertex whose own z are c1, c2, c3: of a net of 3 by 3 that has these at
+-- its vertex (0, 0) and 0 elsewhere, split as it is stored
+abbrev keptNet : ℤ → ℤ → ℤ → List ℤ
+keptNet c1 c2 c3 =
+    pos 0 ∷ pos 0 ∷ c1 ∷ pos 0 ∷ pos 0 ∷ c2 ∷ pos 0 ∷ pos 0 ∷ c3 ∷ replicate (numbers 3 3 - stride) (pos 0)
+
+abbrev splitZ : ℤ → ℤ → ℤ → List ℤ
+splitZ c1 c2 c3 = map (field (coarseNet (keptNet c1 c2 c3) 3 3) 2 2 (vertexAt 0 0)) (one ∷ two ∷ three ∷ [])
+
 -- the bytes of the word of a z, high byte first
 abbrev wordOfZ : ℤ → List ℤ
 wordOfZ z = map pos (numberBytes zKind z)
@@ -75,12 +85,14 @@ cases =
     ∷ (refinedZ (pos 120) 1 0, expected (0 ∷ 60 ∷ 60 ∷ []))
     ∷ (refinedZ (pos 120) 0 1, expected (30 ∷ 0 ∷ 60 ∷ []))
     ∷ (bezierZ (pos 120), expected (1440 ∷ 0 ∷ 0 ∷ 2880 ∷ 2160 ∷ 0 ∷ 0 ∷ 0 ∷ 0 ∷ 2880 ∷ 0 ∷ 0 ∷ 1440 ∷ 1080 ∷ 0 ∷ 1440 ∷ 1440 ∷ 0 ∷ 960 ∷ []))
+    ∷ (splitZ (pos 80) (pos 20) (pos 20), expected (120 ∷ 0 ∷ 0 ∷ []))
+    ∷ (splitZ (pos 0) (pos 1) (pos 1), negsuc 0 ∷ pos 1 ∷ pos 1 ∷ [])
     -- 5F FF FF FF hex
     ∷ (wordOfZ (negsuc 0), expected (95 ∷ 255 ∷ 255 ∷ 255 ∷ []))
     ∷ []
 
--- there are eleven, and every one holds: document 01 has twelve marks, the two of split are not here yet, and the one
--- at (256, 256) is two cases, the exact value and the rounded one
-pub marked-cases : (length cases ≡ 11) × (map (λ (c : Case). c .0) cases ≡ map (λ (c : Case). c .1) cases)
-unfolding cases coordinate spline refinedNet stored grid runs refinement exactRefinement rounded floorQuotient bezierPoints controlTriangle controlPoint wordBytes
+-- there are thirteen, and every one holds: document 01 has twelve marks, and the one at (256, 256) is two cases, the
+-- exact value and the rounded one
+pub marked-cases : (length cases ≡ 13) × (map (λ (c : Case). c .0) cases ≡ map (λ (c : Case). c .1) cases)
+unfolding cases coordinate spline refinedNet coarseNet coarsened stored grid runs refinement exactRefinement rounded floorQuotient bezierPoints controlTriangle controlPoint wordBytes
 marked-cases = (refl, refl)

@@ -3,7 +3,7 @@
 -- `over-more` closes an iteration. An inner loop, which begins at a place, keeps `out ≡ sets old at (runs n f)`:
 -- `runs-none` and `runs-more`. A row of runs is one run of the outer loop.
 use mathlib.Core.Path.{_≡_, refl, sym, _∙_, ap}
-use mathlib.Core.List.{List, [], _∷_, _++_, append-assoc}
+use mathlib.Core.List.{List, [], _∷_, _++_, append-assoc, append-nil}
 use Prim.Native.Nat.{ℕ, zero, suc, _+_, _*_, _-_, _<_, _≤_}
 use native.Mathlib.Nat.{add-zero, zero-add, add-suc, suc-add, suc-mul, zero-mul}
 use native.Mathlib.Numerals.{add-one}
@@ -54,6 +54,15 @@ module _ {ℓ} {A : Type ℓ} where
   runs-same (suc n) f g h =
       ap (λ (l : List A). l ++ f n) (runs-same n f g (λ i k. h i (omega arith)))
       ∙ ap (λ (l : List A). runs n g ++ l) (h n (omega arith))
+
+  -- the first runs, and those after them
+  pub runs-add : (m n : ℕ) (f : ℕ → List A) → runs (m + n) f ≡ runs m f ++ runs n (λ i. f (m + i))
+  unfolding runs
+  runs-add m zero f = ap (λ (k : ℕ). runs k f) (add-zero m) ∙ sym (append-nil (runs m f))
+  runs-add m (suc n) f =
+      ap (λ (k : ℕ). runs k f) (add-suc m n)
+      ∙ ap (λ (l : List A). l ++ f (m + n)) (runs-add m n f)
+      ∙ append-assoc (runs m f) (runs n (λ i. f (m + i))) (f (m + n))
 
   -- a list is the runs of its single elements
   pub runs-of-list : (d : A) (l : List A) (n : ℕ) → n ≤ length l → runs n (λ (i : ℕ). getD l i d ∷ []) ≡ take n l

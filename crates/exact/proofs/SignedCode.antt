@@ -48,6 +48,10 @@ reads-back w z h = toZ-ofZ {w = w} {z = z} (record { sfits = h })
 pub reads-as : (w : Width) (z : ℤ) {y : ℤ} → mag z < 2 ^ hbits w → z ≡ y → toZ w (ofZ w z) ≡ y
 reads-as w z h e = reads-back w z h ∙ e
 
+-- its size
+pub read-size : (w : Width) (z : ℤ) {n : ℕ} → mag z < 2 ^ hbits w → natAbs z ≤ n → natAbs (toZ w (ofZ w z)) ≤ n
+read-size w z {n} h k = subst (λ (y : ℤ). natAbs y ≤ n) (sym (reads-back w z h)) k
+
 -- ---- leaves: the bits held, what they stand for, and a bound for its size
 
 pub record Leaf (w : Width) : Type 0 where

@@ -19,7 +19,7 @@ use Rattle.steps.specs.RefinedNet.{refinedNet}
 use Rattle.refine.specs.Refusals.{tooShort, sizeFaults, netFaults, refineRefusal}
 use Rattle.refine.proofs.Refinable.{Refinable, refine-accepted}
 use Rattle.refine.proofs.CutNets.{cut-refine-refusal, cut-refined}
-use Rattle.refined_points.proofs.RefinedPoints.{refined-accepted, refined-coordinate, point-of-refined}
+use Rattle.refined_points.proofs.RefinedPoints.{left-accepted, refined-coordinate, point-of-refined}
 use Rattle.words.specs.NetFile.{fileWidth, fileHeight, fileNumbers}
 use Rattle.writer.specs.Refusals.{writeFaults}
 use Rattle.reader.specs.Refusals.{readFaults, readRefusal, shortFor}
@@ -85,7 +85,7 @@ module _ (file : List ℕ) (lent : List ℤ) (outRoom : ℕ) where
         refine-accepted net w h 1 (length refined) 0
         (ap (λ (n : ℕ). refineRefusal net w h 1 (tooShort w h 1 n 0)) (sym e) ∙ refusal-after ∙ none) in
         subst (λ (l : List ℤ). AcceptedNet (over l refined) (refinedSide w) (refinedSide h)) refined-after
-        (refined-accepted net w h 1 refined t)
+        (left-accepted net w h 1 refined t)
 
 -- ---- what is printed
 

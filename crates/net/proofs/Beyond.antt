@@ -31,19 +31,20 @@ module _ {ℓ} {A : Type ℓ} where
 
 -- ---- the net's length, its vertices and its fields
 
-pub cut-short : (net : List ℤ) (w h : ℕ) → shortNet net w h ≡ shortNet (cut net w h) w h
-cut-short net w h = by (ltb (length net) (numbers w h)) refl
+-- whether a list is shorter than n, of its first n numbers
+pub short-cut : (l : List ℤ) (n : ℕ) → ltb (length l) n ≡ ltb (length (take n l)) n
+short-cut l n = by (ltb (length l) n) refl
   where
-    by : (b : Bool) → ltb (length net) (numbers w h) ≡ b →
-        ltb (length net) (numbers w h) ≡ ltb (length (take (numbers w h) net)) (numbers w h)
+    by : (b : Bool) → ltb (length l) n ≡ b → ltb (length l) n ≡ ltb (length (take n l)) n
     by true e =
-        let l = ltb-true (length net) (numbers w h) e in
-        e ∙ sym (lt-ltb (length (take (numbers w h) net)) (numbers w h)
-        (omega (arith, l, length-take (numbers w h) net)))
+        let less = ltb-true (length l) n e in
+        e ∙ sym (lt-ltb (length (take n l)) n (omega (arith, less, length-take n l)))
     by false e =
-        let l = ltb-false (length net) (numbers w h) e in
-        e ∙ sym (le-ltb (length (take (numbers w h) net)) (numbers w h)
-        (omega (arith, l, length-take (numbers w h) net)))
+        let more = ltb-false (length l) n e in
+        e ∙ sym (le-ltb (length (take n l)) n (omega (arith, more, length-take n l)))
+
+pub cut-short : (net : List ℤ) (w h : ℕ) → shortNet net w h ≡ shortNet (cut net w h) w h
+cut-short net w h = short-cut net (numbers w h)
 
 pub cut-beyond : (net : List ℤ) (w h : ℕ) → netBeyond net w h ≡ netBeyond (cut net w h) w h
 unfolding netBeyond

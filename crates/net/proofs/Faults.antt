@@ -10,7 +10,7 @@ use lib.ListN.{length}
 use borrow.Author.Tests.{eq-eqb, ne-eqb}
 use Rattle.exact.specs.Filling.{runs}
 use Rattle.exact.proofs.FillingLaws.{runs-suc}
-use Rattle.net.specs.Refusals.{Fault, firstFault, accepted}
+use Rattle.net.specs.Refusals.{Fault, firstFault, accepted, answerBy}
 
 -- `a || b` from a alone, and from b where a fails
 pub or-yes : (a b : Bool) → a ≡ true → true ≡ (a || b)
@@ -18,6 +18,10 @@ or-yes a b e = ap (λ (t : Bool). t || b) (sym e)
 
 pub or-no : (a b : Bool) {r : Bool} → a ≡ false → r ≡ b → r ≡ (a || b)
 or-no a b e q = q ∙ ap (λ (t : Bool). t || b) (sym e)
+
+pub or-second : (a b : Bool) → b ≡ true → (a || b) ≡ true
+or-second true b e = refl
+or-second false b e = e
 
 -- neither is, where `a || b` is not
 pub or-none : (a b : Bool) → (a || b) ≡ false → (a ≡ false) × (b ≡ false)
@@ -142,7 +146,16 @@ unfolding runs
 numbered-runs zero f k = tt
 numbered-runs (suc n) f k = numbered-append (runs n f) (f n) (numbered-runs n f k) (k n)
 
--- ---- an answer is a refusal's number and values, none where it is refused
+-- ---- an answer is a refusal's number and whether the call was carried out
+
+pub carried-out : (refusal : ℕ) → refusal ≡ 0 → _≡_ {A = ℕ × Bool} (0, true) (answerBy refusal)
+carried-out refusal e = λ t. (sym e t, accepted (sym e t))
+
+pub not-carried-out : (refusal : ℕ) {n : ℕ} → n ≡ refusal → (n ≡ 0 → ⊥) →
+    _≡_ {A = ℕ × Bool} (n, false) (answerBy refusal)
+not-carried-out refusal e there = λ t. (e t, sym (ne-eqb refusal 0 (λ z. there (e ∙ z))) t)
+
+-- ---- or the number and values, none where it is refused
 
 module _ {ℓ} {A : Type ℓ} (r : ℕ) (values : List A) where
   -- the outcome of an accepted answer, and of a refused one

@@ -1,19 +1,19 @@
 -- Grids in storage, whatever the length n of a vertex's record: how long they are, where their numbers stand, and what
 -- they are made of.
-use mathlib.Core.Path.{_≡_, sym, ap, _∙_}
+use mathlib.Core.Path.{_≡_, refl, sym, ap, _∙_}
 use mathlib.Core.Bool.{false}
-use mathlib.Core.List.{List}
-use Prim.Native.Nat.{ℕ, _+_, _*_, _<_}
-use native.Mathlib.Nat.{mul-add, mul-assoc, mul-comm}
+use mathlib.Core.List.{List, _++_}
+use Prim.Native.Nat.{ℕ, zero, suc, _+_, _*_, _/_, _%_, _<_}
+use native.Mathlib.Nat.{mul-add, mul-assoc, mul-comm, mul-zero, mul-suc, mod-lt, div-lt-iff-lt-mul, div-add-mod'}
 use native.Mathlib.Omega.{arith}
-use lib.Arith.{digits-lt}
+use lib.Arith.{digits-lt, digits-div, digits-mod}
 use lib.IntN.{ℤ, pos}
 use lib.ListN.{length, take, drop}
 use lib.Seq.{drop-drop}
 use Rattle.exact.specs.Filling.{runs}
-use Rattle.exact.proofs.FillingLaws.{length-runs, getD-runs, runs-same, runs-of-parts}
-use Rattle.net.specs.Net.{Vertex, vertexAt, number, recordStart, gridRow, grid}
-use Rattle.net.specs.Refusals.{anyBeyond}
+use Rattle.exact.proofs.FillingLaws.{length-runs, getD-runs, runs-add, runs-same, runs-of-parts}
+use Rattle.net.specs.Net.{Vertex, vertexAt, number, recordStart, vertexOf, gridRow, grid}
+use Rattle.net.specs.Refusals.{anyOutside}
 use Rattle.net.proofs.Ranges.{any-runs}
 
 -- where the record of a vertex begins, by rows, and the numbers of all rows
@@ -39,6 +39,32 @@ module _ (n : ℕ) (f : Vertex → List ℤ) (e : (v : Vertex) → length (f v) 
       ∙ getD-runs h (w * n) (gridRow f w) (pos 0) (λ m k. row-length w m) j (i * n + r) b (digits-lt a c)
       ∙ getD-runs w n (λ m. f (vertexAt m j)) (pos 0) (λ m k. e (vertexAt m j)) i r a c
 
+-- ---- vertices by their number
+
+pub vertex-in-grid : (w h n : ℕ) → n < w * h → (n % w < w) × (n / w < h) × (n / w * w + n % w ≡ n)
+vertex-in-grid w h n a =
+    let some : 0 < w = positive w (λ e. omega (arith, a, ap (λ (m : ℕ). m * h) e)) in
+    (mod-lt n some, div-lt-iff-lt-mul some .1 (omega (arith, a, mul-comm w h)), div-add-mod' n w)
+  where
+    positive : (w : ℕ) → (w ≡ 0 → ⊥) → 0 < w
+    positive zero e = absurd (e refl)
+    positive (suc w) e = omega arith
+
+pub record-place : (s w h n : ℕ) → n < w * h → recordStart s w (vertexOf w n) ≡ s * n
+record-place s w h n a = ap (λ (m : ℕ). s * m) (vertex-in-grid w h n a .2)
+
+pub grid-by-number : (f : Vertex → List ℤ) (w h : ℕ) → grid f w h ≡ runs (w * h) (λ n. f (vertexOf w n))
+unfolding grid runs
+grid-by-number f w zero = ap (λ (k : ℕ). runs k (λ n. f (vertexOf w n))) (sym (mul-zero w))
+grid-by-number f w (suc h) =
+    ap (λ (l : List ℤ). l ++ gridRow f w h) (grid-by-number f w h)
+    ∙ ap (λ (l : List ℤ). runs (w * h) (λ n. f (vertexOf w n)) ++ l)
+    (runs-same w (λ i. f (vertexAt i h)) (λ i. f (vertexOf w (w * h + i))) (λ i a.
+    λ t. f (vertexAt (sym (ap (λ (m : ℕ). (m + i) % w) (mul-comm w h) ∙ digits-mod h a) t)
+    (sym (ap (λ (m : ℕ). (m + i) / w) (mul-comm w h) ∙ digits-div h a) t))))
+    ∙ sym (runs-add (w * h) w (λ n. f (vertexOf w n)))
+    ∙ ap (λ (k : ℕ). runs k (λ n. f (vertexOf w n))) (sym (mul-suc w h))
+
 -- records that agree on the vertices of the grid
 pub grid-same : (f g : Vertex → List ℤ) (w h : ℕ) → ((i j : ℕ) → i < w → j < h → f (vertexAt i j) ≡ g (vertexAt i j)) →
     grid f w h ≡ grid g w h
@@ -62,7 +88,8 @@ grid-of-parts n w h l =
     ∙ ap (λ (m : ℕ). take m l) (all-rows n w h)
 
 -- a grid is in range where each record is
-pub any-grid : (f : Vertex → List ℤ) (w h : ℕ) → ((i j : ℕ) → i < w → j < h → anyBeyond (f (vertexAt i j)) ≡ false) →
-    anyBeyond (grid f w h) ≡ false
+pub any-grid : (limit : ℕ) (f : Vertex → List ℤ) (w h : ℕ) →
+    ((i j : ℕ) → i < w → j < h → anyOutside limit (f (vertexAt i j)) ≡ false) → anyOutside limit (grid f w h) ≡ false
 unfolding grid
-any-grid f w h e = any-runs h (gridRow f w) (λ j b. any-runs w (λ i. f (vertexAt i j)) (λ i a. e i j a b))
+any-grid limit f w h e =
+    any-runs limit h (gridRow f w) (λ j b. any-runs limit w (λ i. f (vertexAt i j)) (λ i a. e i j a b))

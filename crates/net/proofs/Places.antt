@@ -15,7 +15,7 @@ use borrow.Author.Tests.{ltb-false, leb-false}
 use Rattle.exact.specs.Filling.{runs}
 use Rattle.exact.proofs.FillingLaws.{array-elements}
 use Rattle.net.specs.Net.{Index, one, two, three, rank, Vertex, vertexAt, numbers, start, vertexNumbers, number, controlPoint, controlTriangle, field, stride, pointStride}
-use Rattle.net.specs.Refusals.{badSide, badSize, noVertex, shortNet, anyBeyond, vertexRefusal, vertexPart}
+use Rattle.net.specs.Refusals.{badSide, badSize, noVertex, shortNet, netLimit, anyBeyond, vertexRefusal, vertexPart}
 use Rattle.net.proofs.Faults.{or-none, fault-none, when-accepted, when-refused}
 use Rattle.net.proofs.Ranges.{in-range}
 
@@ -97,7 +97,7 @@ pub stored : (l : List ℤ) (at : ℕ) (p : List ℤ) → length p ≡ 3 →
 stored l at p e = simp unary-clauses (ap (sets l at) (sym (array3 p e)))
 
 -- where a number of a control point and of a field stands in storage
-point-number : (net : List ℤ) (at x : ℕ) → x < 3 → number (controlPoint net at) x ≡ number net (at + x)
+pub point-number : (net : List ℤ) (at x : ℕ) → x < 3 → number (controlPoint net at) x ≡ number net (at + x)
 unfolding controlPoint
 point-number net at zero h = ap (number net) (omega arith)
 point-number net at (suc zero) h = refl
@@ -130,7 +130,7 @@ field-size net w v e l k x h =
     getD-take stride (drop (start w v) net) at (pos 0) here
     ∙ getD-drop (start w v) net at (pos 0)
     ∙ sym (field-number net w v k x h) in
-    subst (λ (z : ℤ). natAbs z ≤ 16777216) same (in-range (vertexNumbers net w v) e at long)
+    subst (λ (z : ℤ). natAbs z ≤ 16777216) same (in-range netLimit (vertexNumbers net w v) e at long)
 
 -- where P, Q and T stand among the corners
 pub below-three : (k : Index) {n : ℕ} → n ≡ rank k → n < 3

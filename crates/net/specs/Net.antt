@@ -2,7 +2,7 @@
 use mathlib.Core.Path.{_≡_, refl}
 use mathlib.Core.Bool.{Bool, true, false}
 use mathlib.Core.List.{List, [], _∷_, _++_}
-use Prim.Native.Nat.{ℕ, zero, suc, _+_, _*_}
+use Prim.Native.Nat.{ℕ, zero, suc, _+_, _*_, _/_, _%_}
 use lib.ListN.{getD, take, drop}
 use lib.IntN.{ℤ, pos, negsuc, _+ℤ_}
 use Rattle.exact.specs.Filling.{runs}
@@ -114,6 +114,10 @@ stride = 3 * pointStride
 abbrev pub recordStart : ℕ → ℕ → Vertex → ℕ
 recordStart n w v = n * (v .row * w + v .column)
 
+-- vertex n of a grid of width w, counted from 0
+abbrev pub vertexOf : ℕ → ℕ → Vertex
+vertexOf w n = vertexAt (n % w) (n / w)
+
 abbrev pub gridRow : (Vertex → List ℤ) → ℕ → ℕ → List ℤ
 gridRow f w j = runs w (λ i. f (vertexAt i j))
 
@@ -163,7 +167,8 @@ squares (suc n) = squares n ++ pos (n * n) ∷ []
 
 -- the steps add up to zero; the triangles of cell (3, 5); a net of 4 by 3 has 108 numbers, and vertex (1, 2) of it
 -- begins at number 81; in a grid of 3 by 2 with two numbers a vertex, its column and its row, vertex (2, 1) begins at
--- number 10; of a net of width 2, vertex (0, 1) has the numbers 18 to 26, and y of its control 2 is number 22
+-- number 10 and is vertex 5; of a net of width 2, vertex (0, 1) has the numbers 18 to 26, and y of its control 2 is
+-- number 22
 steps-close :
     (stepColumn one +ℤ stepColumn two +ℤ stepColumn three ≡ pos 0)
     × (stepRow one +ℤ stepRow two +ℤ stepRow three ≡ pos 0)
@@ -190,8 +195,9 @@ places = grid (λ v. pos (v .column) ∷ pos (v .row) ∷ []) 3 2
 two-a-vertex :
     (places ≡ pos 0 ∷ pos 0 ∷ pos 1 ∷ pos 0 ∷ pos 2 ∷ pos 0 ∷ pos 0 ∷ pos 1 ∷ pos 1 ∷ pos 1 ∷ pos 2 ∷ pos 1 ∷ [])
     × (recordStart 2 3 (vertexAt 2 1) ≡ 10)
+    × (vertexOf 3 5 ≡ vertexAt 2 1)
 unfolding grid runs
-two-a-vertex = (refl, refl)
+two-a-vertex = (refl, refl, refl)
 
 controls-of-a-vertex :
     controlTriangle (squares 36) 2 (vertexAt 0 1)

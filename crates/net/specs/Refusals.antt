@@ -4,7 +4,7 @@ use mathlib.Core.Bool.{Bool, true, false, _||_, cond}
 use mathlib.Core.List.{List, [], _∷_, _++_}
 use Prim.Native.Nat.{ℕ, _-_}
 use lib.Dec.{leb, ltb, eqb}
-use lib.ListN.{length, replicate, set, take}
+use lib.ListN.{length, replicate, getD, set, take}
 use lib.IntN.{ℤ, pos, negsuc, natAbs}
 use Rattle.exact.specs.Filling.{over}
 use Rattle.net.specs.Net.{vertexAt, numbers, vertexNumbers, squares}
@@ -21,6 +21,10 @@ firstFault ((there, n) ∷ faults) = cond there n (firstFault faults)
 -- a refusal answers its number; 0 is accepted
 abbrev pub accepted : ℕ → Bool
 accepted n = eqb n 0
+
+-- what a call answers that gives nothing but its outputs: the number of its refusal, and whether it was carried out
+abbrev pub answerBy : ℕ → ℕ × Bool
+answerBy refusal = (refusal, accepted refusal)
 
 module _ {ℓ} {A : Type ℓ} where
   -- 'A refusal answers its number and changes no lent memory': the result over the front of a lent output where nothing
@@ -43,14 +47,31 @@ noVertex w h i j = leb w i || leb h j
 abbrev pub shortNet : List ℤ → ℕ → ℕ → Bool
 shortNet net w h = ltb (length net) (numbers w h)
 
--- 3: a number outside the net range, -16,777,216 to 16,777,216
-abbrev pub beyond : ℤ → Bool
-beyond z = ltb 16777216 (natAbs z)
+-- 5: a net of width w and height h does not fit an output of so many numbers; a bad size is refused before that counts
+abbrev pub tooShortFor : ℕ → ℕ → ℕ → Bool
+tooShortFor w h room = cond (badSize w h) false (ltb room (numbers w h))
 
--- whether one of the numbers is
+-- 3: a number beyond its range, from -limit to limit, and whether one of several is
+abbrev pub outside : ℕ → ℤ → Bool
+outside limit z = ltb limit (natAbs z)
+
+abbrev pub anyOutside : ℕ → List ℤ → Bool
+anyOutside limit [] = false
+anyOutside limit (z ∷ zs) = outside limit z || anyOutside limit zs
+
+-- the net range, -16,777,216 to 16,777,216
+abbrev pub netLimit : ℕ
+netLimit = 16777216
+
+abbrev pub beyond : ℤ → Bool
+beyond = outside netLimit
+
 abbrev pub anyBeyond : List ℤ → Bool
-anyBeyond [] = false
-anyBeyond (z ∷ zs) = beyond z || anyBeyond zs
+anyBeyond = anyOutside netLimit
+
+-- of a control triangle
+abbrev pub controlsBeyond : List (List ℤ) → Bool
+controlsBeyond c = anyBeyond (getD c 0 [] ++ getD c 1 [] ++ getD c 2 [])
 
 -- of a whole net: one of its first numbers, those of its vertices
 unfoldable pub netBeyond : List ℤ → ℕ → ℕ → Bool
@@ -87,7 +108,7 @@ tooFew = replicate (numbers 2 2 - 1) (pos 16777217)
 
 -- document 01's examples of 1, 2 and 3, the limits that are accepted, each side too small and too large, a missing
 -- vertex of a short net, the last vertex of 3 by 2 and a row that it does not have, an output that is refused and one
--- that is written, and a part
+-- that is written, control triangles, and a part
 examples :
     (vertexRefusal [] 1 2 1 0 ≡ 1)
     × (vertexRefusal (replicate 35 (pos 0)) 2 2 1 1 ≡ 2)
@@ -101,15 +122,29 @@ sizes : (badSize 1025 1025 ≡ false) × (badSize 1026 2 ≡ true) × (badSize 2
     × (badSize 2 1 ≡ true)
 sizes = (refl, refl, refl, refl, refl)
 
+rooms : (tooShortFor 3 2 54 ≡ false) × (tooShortFor 3 2 53 ≡ true) × (tooShortFor 1 2 0 ≡ false)
+rooms = (refl, refl, refl)
+
 outputs : (_≡_ {A = List ℕ} (outputAfter 5 (7 ∷ []) (1 ∷ 2 ∷ [])) (1 ∷ 2 ∷ []))
     × (_≡_ {A = List ℕ} (outputAfter 0 (7 ∷ []) (1 ∷ 2 ∷ [])) (7 ∷ 2 ∷ []))
 unfolding over
 outputs = (refl, refl)
 
+answers : (answerBy 0 ≡ (0, true)) × (answerBy 5 ≡ (5, false))
+answers = (refl, refl)
+
 limits :
     (beyond (pos 16777217) ≡ true) × (beyond (pos 16777216) ≡ false) × (beyond (negsuc 16777215) ≡ false)
     × (beyond (negsuc 16777216) ≡ true)
 limits = (refl, refl, refl, refl)
+
+controls :
+    (controlsBeyond ((pos 1 ∷ pos 2 ∷ pos 3 ∷ []) ∷ (pos 4 ∷ pos 5 ∷ pos 6 ∷ []) ∷ (pos 7 ∷ pos 8 ∷ pos 9 ∷ []) ∷ [])
+    ≡ false)
+    × (controlsBeyond ((pos 16777217 ∷ []) ∷ [] ∷ [] ∷ []) ≡ true)
+    × (controlsBeyond ([] ∷ (pos 16777217 ∷ []) ∷ [] ∷ []) ≡ true)
+    × (controlsBeyond ([] ∷ [] ∷ (pos 16777217 ∷ []) ∷ []) ≡ true)
+controls = (refl, refl, refl, refl)
 
 part-of-a-vertex :
     vertexPart (squares (numbers 3 2)) 3 2 1 1

@@ -7,10 +7,11 @@ ghost use Prim.Native.Nat.{_+_, _≤_, _<_, _*_};
 ghost use lib.ListN.{length, take};
 ghost use lib.Seq.{sets};
 ghost use Rattle.net.specs.Net.{controlPoint, controlTriangle, vertexAt, stride, numbers, start, vertexNumbers};
-ghost use Rattle.net.specs.Refusals.{badSize, beyond, anyBeyond, netBeyond};
+ghost use Rattle.net.specs.Refusals.{badSize, beyond, anyBeyond, controlsBeyond, netBeyond};
 
-// The control point that begins at a place of the net.
-fn load_point(net: &[i32], at: usize) -> [i32; 3]
+// The control point that begins at a place of the net. For the crates above, which have refused every net that is too
+// short.
+pub fn load_point(net: &[i32], at: usize) -> [i32; 3]
     requires { ⌜ at + 3 ≤ length (now net) ⌝ }
     ensures { λ r. ⌜ r ≡ controlPoint (now (net .entry)) at ⌝ }
 {
@@ -65,6 +66,26 @@ pub fn any_beyond(numbers: &[i32]) -> bool
         i += 1;
     }
     false
+}
+
+// Whether one of the numbers of a control point is.
+fn point_beyond(point: [i32; 3]) -> bool
+    ensures { λ r. ⌜ r ≡ anyBeyond point ⌝ }
+{
+    any_beyond(&point)
+}
+
+// Whether one of the numbers of a control triangle is.
+pub fn controls_beyond(c: [[i32; 3]; 3]) -> bool
+    ensures { λ r. ⌜ r ≡ controlsBeyond c ⌝ }
+{
+    if point_beyond(c[0]) {
+        return true;
+    }
+    if point_beyond(c[1]) {
+        return true;
+    }
+    point_beyond(c[2])
 }
 
 // Whether one of the numbers of the first n vertices is. A vertex's part at a time: its length is known, so the loop

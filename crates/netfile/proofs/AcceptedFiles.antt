@@ -14,7 +14,7 @@ use borrow.Author.Tests.{ltb-false, le-ltb, eqb-true, not-false}
 use Rattle.exact.specs.Filling.{over, runs}
 use Rattle.exact.proofs.FillingLaws.{runs-of-parts, runs-same, length-runs, getD-runs, take-over, length-over}
 use Rattle.net.specs.Net.{number, numbers, pointStride}
-use Rattle.net.specs.Refusals.{beyond, anyBeyond}
+use Rattle.net.specs.Refusals.{netLimit, beyond, anyBeyond}
 use Rattle.net.proofs.Beyond.{cut}
 use Rattle.net.proofs.Faults.{Clear, clear-none, clear-parts, clear-run, or-no, when-accepted, accepted-answer}
 use Rattle.net.proofs.Ranges.{any-runs, front-in-range}
@@ -207,7 +207,7 @@ module _ (file : List ℕ) (lent : List ℤ) (taken : Readable file lent) where
             refl,
             (
               front-in-range after width height read-front
-                  (any-runs n (λ i. firstPoint (fromPoint file i))
+                  (any-runs netLimit n (λ i. firstPoint (fromPoint file i))
                   (λ i k. point-range (fromPoint file i) (points-clear i k))),
               tt,
             ),

@@ -11,7 +11,7 @@ use borrow.Author.Tests.{ltb-false}
 use Rattle.exact.specs.Filling.{over}
 use Rattle.exact.proofs.FillingLaws.{take-over, length-over}
 use Rattle.net.specs.Net.{numbers}
-use Rattle.net.specs.Refusals.{badSize, shortNet, netBeyond, outputAfter}
+use Rattle.net.specs.Refusals.{badSize, shortNet, netBeyond, outputAfter, tooShortFor}
 use Rattle.net.proofs.Faults.{clear-none, or-none, answered, not-accepted, accepted-answer, refused-answer, when-accepted, when-refused}
 use Rattle.words.specs.NetFile.{netFile, fileSize}
 use Rattle.words.specs.Answers.{answer}
@@ -29,7 +29,7 @@ module _ (net : List ℤ) (w h : ℕ) (out : List ℕ) (back : List ℤ) where
 
   -- the room of `back` counts only where the size is good
   abbrev pub short : Bool
-  short = cond (badSize w h) false (ltb (length back) (numbers w h)) || noRoom w h (length out)
+  short = tooShortFor w h (length back) || noRoom w h (length out)
 
   same-refusal : writeRefusal net w h short ≡ refusal
   same-refusal = go (badSize w h) (ltb (length back) (numbers w h))

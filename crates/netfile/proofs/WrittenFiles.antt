@@ -13,7 +13,7 @@ use borrow.Author.Tests.{le-ltb, eq-eqb}
 use Rattle.exact.specs.Filling.{over, runs}
 use Rattle.exact.proofs.FillingLaws.{Begins, run-begins, runs-of-parts, runs-of-list, runs-same}
 use Rattle.net.specs.Net.{number, numbers, pointStride}
-use Rattle.net.specs.Refusals.{badSide, beyond}
+use Rattle.net.specs.Refusals.{badSide, netLimit, beyond}
 use Rattle.net.proofs.Beyond.{cut}
 use Rattle.net.proofs.Faults.{Clear, clear-none, clear-append, clear-runs, or-none, when-accepted, accepted-answer}
 use Rattle.net.proofs.Places.{GoodSize, good-size}
@@ -202,7 +202,7 @@ module _ (net : List ℤ) (w h : ℕ) (taken : Writable net w h) where
   small : (i : ℕ) → i < numbers w h → natAbs (number net i) ≤ 16777216
   small i k =
       subst (λ (z : ℤ). natAbs z ≤ 16777216) (getD-take (numbers w h) net i (pos 0) k)
-      (in-range (cut net w h) (good .range) i (omega (arith, k, length-take (numbers w h) net, good .long)))
+      (in-range netLimit (cut net w h) (good .range) i (omega (arith, k, length-take (numbers w h) net, good .long)))
 
   small-point : (i r : ℕ) → i < n → r < 3 → natAbs (number net (pointStride * i + r)) ≤ 16777216
   small-point i r k l = small (pointStride * i + r) (omega (arith, k, l))

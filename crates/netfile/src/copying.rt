@@ -1,29 +1,14 @@
 // Writing and reading in one go: the round trip, held to by the code itself.
-use net::STRIDE;
-use net::bad_size;
+use net::too_short_for;
 use reader::ReadAnswer;
 use reader::read;
 use writer::WriteAnswer;
 use writer::write_with;
 ghost use mathlib.Core.Path.{_≡_};
 ghost use mathlib.Core.List.{[], _∷_};
-ghost use mathlib.Core.Bool.{false, cond};
-ghost use lib.Dec.{ltb};
-ghost use Rattle.net.specs.Net.{numbers};
-ghost use Rattle.net.specs.Refusals.{badSize};
 ghost use Rattle.words.specs.Answers.{answer};
 ghost use Rattle.reader.specs.Answers.{readOutcome};
 ghost use Rattle.netfile.specs.Answers.{copyRefusal, copyOutput, copyBack};
-
-// Whether a net of this size does not fit `room` numbers; a bad size is refused before that counts.
-fn too_short_for(w: usize, h: usize, room: usize) -> bool
-    ensures { λ r. ⌜ r ≡ cond (badSize w h) false (ltb room (numbers w h)) ⌝ }
-{
-    if bad_size(w, h) {
-        return false;
-    }
-    room < STRIDE * (w * h)
-}
 
 // The net's file over the front of `out`, and the net that is read from these bytes over the front of `back`: the net's
 // first 9wh numbers.

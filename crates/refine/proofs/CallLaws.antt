@@ -1,12 +1,10 @@
--- What the calls answer and leave in lent memory, where nothing is refused and where something is.
-use mathlib.Core.Path.{_≡_, refl, sym, subst, _∙_}
-use mathlib.Core.Bool.{Bool, true, false}
+-- What the calls leave in lent memory, where nothing is refused and where something is.
+use mathlib.Core.Path.{_≡_, refl, subst, _∙_}
 use mathlib.Core.List.{List}
 use Prim.Native.Nat.{ℕ}
 use lib.IntN.{ℤ}
-use borrow.Author.Tests.{ne-eqb}
 use Rattle.exact.specs.Filling.{over}
-use Rattle.net.specs.Refusals.{accepted, outputAfter}
+use Rattle.net.specs.Refusals.{outputAfter}
 use Rattle.net.proofs.Faults.{when-accepted, when-refused}
 use Rattle.steps.specs.RefinedNet.{scratchNeed}
 use Rattle.steps.specs.Steps.{UnchangedFrom}
@@ -28,11 +26,3 @@ module _ (refusal k w h : ℕ) (result out scratch : List ℤ) where
 
   pub left-refused : (refusal ≡ 0 → ⊥) → Left refusal k w h result out scratch out scratch
   left-refused there = (when-refused refusal (over result out) out there, (refl, refl))
-
--- the number, and whether the call was carried out
-pub carried-out : (refusal : ℕ) → refusal ≡ 0 → _≡_ {A = ℕ × Bool} (0, true) (refusal, accepted refusal)
-carried-out refusal e = λ t. (sym e t, accepted (sym e t))
-
-pub not-carried-out : (refusal : ℕ) {n : ℕ} → n ≡ refusal → (n ≡ 0 → ⊥) →
-    _≡_ {A = ℕ × Bool} (n, false) (refusal, accepted refusal)
-not-carried-out refusal e there = λ t. (e t, sym (ne-eqb refusal 0 (λ z. there (e ∙ z))) t)

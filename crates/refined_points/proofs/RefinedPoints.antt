@@ -3,21 +3,18 @@
 use mathlib.Core.Path.{_≡_, refl, sym, ap, subst, _∙_}
 use mathlib.Core.Bool.{Bool, false, _||_}
 use mathlib.Core.List.{List, [], _∷_, _++_}
-use Prim.Native.Nat.{ℕ, zero, suc, _≤_, _<_}
+use Prim.Native.Nat.{ℕ, zero, suc, _<_}
 use native.Mathlib.Omega.{arith}
 use lib.Dec.{lit<}
-use lib.IntN.{ℤ, natAbs}
+use lib.IntN.{ℤ}
 use lib.ListN.{length, take}
-use borrow.Author.Tests.{le-ltb}
 use Rattle.exact.specs.Rounding.{rounded}
 use Rattle.exact.specs.Filling.{over}
-use Rattle.exact.proofs.FillingLaws.{length-over, take-over}
-use Rattle.net.specs.Net.{Index, one, two, three, Vertex, vertexAt, Field, corner, numbers, number, field}
-use Rattle.net.specs.Refusals.{badSize, beyond, anyBeyond, AcceptedNet}
+use Rattle.exact.proofs.FillingLaws.{take-over}
+use Rattle.net.specs.Net.{Index, three, corner, number, field}
+use Rattle.net.specs.Refusals.{AcceptedNet}
 use Rattle.net.proofs.Beyond.{cut}
-use Rattle.net.proofs.Faults.{none-clear, or-none, or-no, when-accepted, answered, accepted-answer}
-use Rattle.net.proofs.Grids.{any-grid}
-use Rattle.net.proofs.Ranges.{any-append, front-in-range}
+use Rattle.net.proofs.Faults.{none-clear, or-none, when-accepted, answered, accepted-answer}
 use Rattle.places.specs.Places.{OnGrid, chosen, share, orderOf}
 use Rattle.places.proofs.Cells.{on-grid}
 use Rattle.spline.specs.Spline.{valueIn, spline}
@@ -26,17 +23,15 @@ use Rattle.surface.specs.Refusals.{pointRefusal}
 use Rattle.surface.specs.Answers.{pointAnswer}
 use Rattle.surface.proofs.Beyond.{cut-point-answer}
 use Rattle.surface.proofs.SurfacePoints.{accepted-point}
-use Rattle.surface.proofs.Accepted.{corner-in-net, good-sides, point-not-refused}
+use Rattle.surface.proofs.Accepted.{corner-in-net, point-not-refused}
 use Rattle.subdivision.specs.Refinement.{sideAfter, refinements}
-use Rattle.subdivision.specs.WeightTable.{weights, weights-pass}
-use Rattle.subdivision.proofs.SameSpline.{side-at-least}
 use Rattle.bounds.specs.DemandThree.{refinedCoordinate, NearSpline, WithinControls}
-use Rattle.bounds.proofs.Distance.{our-nets}
-use Rattle.bounds.proofs.DemandThree.{demand-three, refined-in-range}
-use Rattle.steps.specs.RefinedNet.{Fields, pointAt, vertexRun, stored, refinedNet}
+use Rattle.bounds.proofs.DemandThree.{demand-three}
+use Rattle.steps.specs.RefinedNet.{Fields, refinedNet}
 use Rattle.steps.proofs.StoredNets.{stored-field, refined-length}
 use Rattle.refine.specs.Refusals.{tooShort, sizeFaults, netFaults}
 use Rattle.refine.specs.Answers.{refusalOf}
+use Rattle.refine.proofs.RefinedNets.{refined-accepted}
 use Rattle.refine.proofs.Refinable.{Refinable, refinable-by, refine-accepted}
 use Rattle.refined_points.specs.Refusals.{offGrid, refinedPointRefusal}
 use Rattle.refined_points.specs.Answers.{refusalAt, refinedSurfacePoint, refinedPointAnswer}
@@ -59,26 +54,6 @@ point-accepted net w h k p q short room scratchLength e =
 
 -- ---- what refining leaves in the output is an accepted net
 
--- the nine numbers of a vertex, and all numbers of a stored net, in range
-abbrev Fine : Fields → Vertex → Type 0
-Fine F v = (x : ℕ) → x < 3 → (l : Index) → natAbs (F x v l) ≤ 16777216
-
-point-fine : (F : Fields) (v : Vertex) → Fine F v → (l : Index) → anyBeyond (pointAt F v l) ≡ false
-point-fine F v f l =
-    let fine : (x : ℕ) → x < 3 → beyond (F x v l) ≡ false = λ x c. le-ltb 16777216 (natAbs (F x v l)) (f x c l) in
-    sym (or-no _ _ (fine 0 (lit< tt)) (or-no _ _ (fine 1 (lit< tt)) (or-no _ _ (fine 2 (lit< tt)) refl)))
-
-vertex-fine : (F : Fields) (v : Vertex) → Fine F v → anyBeyond (vertexRun F v) ≡ false
-vertex-fine F v f =
-    any-append (pointAt F v one ++ pointAt F v two) (pointAt F v three)
-    ∙ sym (or-no _ _ (any-append (pointAt F v one) (pointAt F v two)
-    ∙ sym (or-no _ _ (point-fine F v f one) (sym (point-fine F v f two)))) (sym (point-fine F v f three)))
-
-stored-fine : (F : Fields) (w h : ℕ) → ((i j : ℕ) → i < w → j < h → Fine F (vertexAt i j)) →
-    anyBeyond (stored F w h) ≡ false
-unfolding stored
-stored-fine F w h f = any-grid (vertexRun F) w h (λ i j a b. vertex-fine F (vertexAt i j) (f i j a b))
-
 module _ (net : List ℤ) (w h k : ℕ) (out : List ℤ) {scratchLength : ℕ} (taken : Refinable net w h k (length out) scratchLength) where
   abbrev wide : ℕ
   wide = sideAfter k w
@@ -92,32 +67,12 @@ module _ (net : List ℤ) (w h k : ℕ) (out : List ℤ) {scratchLength : ℕ} (
   abbrev left : List ℤ
   left = over (refinedNet net w h k) out
 
-  size : badSize wide high ≡ false
-  size =
-      good-sides wide high (side-at-least k w (taken .depth .wide)) (taken .depth .narrow)
-      (side-at-least k h (taken .depth .high)) (taken .depth .low)
-
-  in-range : anyBeyond (refinedNet net w h k) ≡ false
-  unfolding refinedNet
-  in-range =
-      stored-fine fields wide high (λ i j a b x c l.
-      subst (λ (F : Field). natAbs (F (vertexAt i j) l) ≤ 16777216) (our-nets k (field net w x))
-      (refined-in-range weights weights-pass net w h (taken .given) k i j x c a b l))
-
   front : cut left wide high ≡ refinedNet net w h k
   front =
       ap (λ (n : ℕ). take n left) (sym (refined-length net w h k)) ∙ take-over (refinedNet net w h k) out
 
-  pub refined-accepted : AcceptedNet left wide high
-  refined-accepted =
-      let fits : length (refinedNet net w h k) ≤ length out = omega (arith, refined-length net w h k, taken .roomy) in
-      record {
-        size = size;
-        long =
-            le-ltb (length left) (numbers wide high)
-            (omega (arith, length-over (refinedNet net w h k) out fits, taken .roomy));
-        inRange = front-in-range left wide high front in-range;
-      }
+  pub left-accepted : AcceptedNet left wide high
+  left-accepted = refined-accepted net out (taken .depth) (taken .given) (taken .roomy)
 
   -- ---- its surface points are those of the refined fields
 
@@ -131,7 +86,7 @@ module _ (net : List ℤ) (w h k : ℕ) (out : List ℤ) {scratchLength : ℕ} (
         let at : (P l : Index) → field left wide x (corner t P) l ≡ fields x (corner t P) l =
         λ P l.
         let v = corner t P in
-        let n = corner-in-net wide high p q size place P in
+        let n = corner-in-net wide high p q (left-accepted .size) place P in
         stored-field fields wide high out (v .column) (v .row) (n .0) (n .1) l x c in
         λ i. rounded (valueIn (t .down) (λ P l. at P l i) (orderOf s) s) 37748736
 
@@ -143,7 +98,7 @@ module _ (net : List ℤ) (w h k : ℕ) (out : List ℤ) {scratchLength : ℕ} (
 
     pub point-answered : (0, coordinates) ≡ pointAnswer left wide high p q
     point-answered =
-        accepted-point left wide high p q (sym (point-not-refused left wide high refined-accepted p q place))
+        accepted-point left wide high p q (sym (point-not-refused left wide high left-accepted p q place))
         (sym (refined-coordinate 0 (lit< tt))) (sym (refined-coordinate 1 (lit< tt)))
         (sym (refined-coordinate 2 (lit< tt)))
 

@@ -15,7 +15,7 @@ use Rattle.net.specs.Net.{Index, one, two, three, Vertex, vertexAt, start, entr
 use Rattle.subdivision.specs.Refinement.{kept, kindOf, beginOf, endOf, isOdd, kindBy, beginBy, endBy}
 use Rattle.subdivision.specs.WeightTable.{kindNumber, weights, exactBy, refinedBy, refinedNumber, refinedTriangle}
 use Rattle.subdivision.proofs.Tables.{our-rule, our-refinement}
-use Rattle.steps.specs.RefinedNet.{pointAt, triangleOf, vertexRun, refinedFields, refinedControls}
+use Rattle.steps.specs.RefinedNet.{Fields, pointAt, triangleOf, vertexRun, refinedFields, refinedControls}
 use Rattle.steps.specs.Steps.{threePoints}
 
 -- a vertex that is stored no later than another ends where that one does, or before
@@ -53,14 +53,17 @@ kept-alone a b c =
     ∙ sym (our-rule kept (λ k. entry a k x) (λ k. entry c k x) l)) in
     λ t. triangleOf (λ x v l. same l x t) (vertexAt 0 0)
 
--- its three control points, stored one after the other, are its numbers
-pub stored-controls : (net : List ℤ) (w : ℕ) (v : Vertex) (l : List ℤ) (at : ℕ) {c : List (List ℤ)} →
-    c ≡ refinedControls net w v →
-    threePoints l at c ≡ sets l at (vertexRun (refinedFields net w) v)
-unfolding refinedControls
-stored-controls net w v l at e =
-    let F = refinedFields net w in
+-- the three control points of a vertex, stored one after the other, are its numbers
+pub stored-triangle : (F : Fields) (v : Vertex) (l : List ℤ) (at : ℕ) {c : List (List ℤ)} → c ≡ triangleOf F v →
+    threePoints l at c ≡ sets l at (vertexRun F v)
+stored-triangle F v l at e =
     (λ t. threePoints l at (e t))
     ∙ ap (λ (m : List ℤ). sets m (at + 2 * pointStride) (pointAt F v three))
     (sets-after l at (pointAt F v one) (pointAt F v two) refl)
     ∙ sets-after l at (pointAt F v one ++ pointAt F v two) (pointAt F v three) refl
+
+pub stored-controls : (net : List ℤ) (w : ℕ) (v : Vertex) (l : List ℤ) (at : ℕ) {c : List (List ℤ)} →
+    c ≡ refinedControls net w v →
+    threePoints l at c ≡ sets l at (vertexRun (refinedFields net w) v)
+unfolding refinedControls
+stored-controls net w = stored-triangle (refinedFields net w)

@@ -1,22 +1,25 @@
 -- Where the numbers of a stored net stand, and that one refinement looks only at vertices of the net.
-use mathlib.Core.Path.{_≡_, refl, sym, _∙_}
+use mathlib.Core.Path.{_≡_, refl, sym, ap, _∙_}
 use mathlib.Core.Bool.{Bool, true, false}
 use mathlib.Core.List.{List, [], _∷_, _++_}
 use Prim.Native.Nat.{ℕ, zero, suc, _+_, _*_, _/_, _≤_, _<_}
 use native.Mathlib.Omega.{arith}
 use lib.Dec.{lit<}
-use lib.IntN.{ℤ, pos}
+use lib.IntN.{ℤ, pos, natAbs}
 use lib.ListN.{length, take, drop, length-take, length-drop, List·getD-append}
-use lib.Seq.{getD-take, getD-drop}
-use borrow.Author.Tests.{ltb-true}
+use lib.Seq.{getD-take, getD-drop, take-all}
+use borrow.Author.Tests.{ltb-true, le-ltb}
 use Rattle.exact.specs.Rounding.{rounded}
 use Rattle.exact.specs.Filling.{over, runs}
 use Rattle.exact.proofs.FillingLaws.{array-elements}
-use Rattle.net.specs.Net.{Index, one, two, three, rank, Vertex, vertexAt, Field, numbers, start, vertexNumbers, number, field, stride, pointStride}
-use Rattle.net.proofs.Grids.{grid-length, grid-number, grid-same, grid-of-parts}
+use Rattle.net.specs.Net.{Index, one, two, three, rank, Vertex, vertexAt, vertexOf, Field, numbers, start, vertexNumbers, number, entry, field, stride, pointStride}
+use Rattle.net.specs.Refusals.{netLimit, beyond, anyBeyond, netBeyond}
+use Rattle.net.proofs.Faults.{or-no}
+use Rattle.net.proofs.Grids.{grid-length, grid-number, grid-same, grid-of-parts, grid-by-number, any-grid}
+use Rattle.net.proofs.Ranges.{any-append}
 use Rattle.net.proofs.Places.{vertex-ends, field-number, within-record}
 use Rattle.subdivision.specs.Refinement.{refinedSide, sideAfter, isOdd, kindBy, along, beginBy, endBy, ruleBy, keptControl, exactRefinement, refinement, refinements}
-use Rattle.steps.specs.RefinedNet.{Fields, pointAt, vertexRun, stored, refinedFields, refinedNet}
+use Rattle.steps.specs.RefinedNet.{Fields, pointAt, triangleOf, vertexRun, stored, refinedFields, refinedNet}
 
 -- ---- the numbers of a stored net
 
@@ -42,6 +45,19 @@ run-number F v three (suc zero) h = refl
 run-number F v three (suc (suc zero)) h = refl
 run-number F v l (suc (suc (suc x))) h = absurd (omega (arith, h))
 
+-- a number of the control triangle of a vertex
+pub triangle-entry : (F : Fields) (v : Vertex) (l : Index) (x : ℕ) → x < 3 → entry (triangleOf F v) l x ≡ F x v l
+triangle-entry F v one zero h = refl
+triangle-entry F v one (suc zero) h = refl
+triangle-entry F v one (suc (suc zero)) h = refl
+triangle-entry F v two zero h = refl
+triangle-entry F v two (suc zero) h = refl
+triangle-entry F v two (suc (suc zero)) h = refl
+triangle-entry F v three zero h = refl
+triangle-entry F v three (suc zero) h = refl
+triangle-entry F v three (suc (suc zero)) h = refl
+triangle-entry F v l (suc (suc (suc x))) h = absurd (omega (arith, h))
+
 -- the field of a slice that begins with a stored net
 pub stored-field : (F : Fields) (w h : ℕ) (old : List ℤ) (i j : ℕ) → i < w → j < h → (l : Index) (x : ℕ) → x < 3 →
     field (over (stored F w h) old) w x (vertexAt i j) l ≡ F x (vertexAt i j) l
@@ -54,6 +70,39 @@ stored-field F w h old i j a b l x c =
     ∙ List·getD-append (stored F w h) (drop (length (stored F w h)) old) (pos 0) at here
     ∙ stored-number F w h i j (pointStride * rank l + x) a b (within-record l x c)
     ∙ run-number F (vertexAt i j) l x c
+
+-- vertex by vertex
+pub stored-by-number : (F : Fields) (w h : ℕ) → stored F w h ≡ runs (w * h) (λ n. vertexRun F (vertexOf w n))
+unfolding stored
+stored-by-number F w h = grid-by-number (vertexRun F) w h
+
+-- ---- numbers in range
+
+pub stored-beyond : (F : Fields) (w h : ℕ) →
+    netBeyond (stored F w h) w h ≡ anyBeyond (runs (w * h) (λ n. vertexRun F (vertexOf w n)))
+unfolding netBeyond
+stored-beyond F w h =
+    ap anyBeyond (take-all (numbers w h) (stored F w h) (omega (arith, stored-length F w h)) ∙ stored-by-number F w h)
+
+-- the nine numbers of a vertex, and all numbers of a stored net, in range
+abbrev pub Fine : Fields → Vertex → Type 0
+Fine F v = (x : ℕ) → x < 3 → (l : Index) → natAbs (F x v l) ≤ 16777216
+
+point-fine : (F : Fields) (v : Vertex) → Fine F v → (l : Index) → anyBeyond (pointAt F v l) ≡ false
+point-fine F v f l =
+    let fine : (x : ℕ) → x < 3 → beyond (F x v l) ≡ false = λ x c. le-ltb 16777216 (natAbs (F x v l)) (f x c l) in
+    sym (or-no _ _ (fine 0 (lit< tt)) (or-no _ _ (fine 1 (lit< tt)) (or-no _ _ (fine 2 (lit< tt)) refl)))
+
+pub vertex-fine : (F : Fields) (v : Vertex) → Fine F v → anyBeyond (vertexRun F v) ≡ false
+vertex-fine F v f =
+    any-append netLimit (pointAt F v one ++ pointAt F v two) (pointAt F v three)
+    ∙ sym (or-no _ _ (any-append netLimit (pointAt F v one) (pointAt F v two)
+    ∙ sym (or-no _ _ (point-fine F v f one) (sym (point-fine F v f two)))) (sym (point-fine F v f three)))
+
+pub stored-fine : (F : Fields) (w h : ℕ) → ((i j : ℕ) → i < w → j < h → Fine F (vertexAt i j)) →
+    anyBeyond (stored F w h) ≡ false
+unfolding stored
+stored-fine F w h f = any-grid netLimit (vertexRun F) w h (λ i j a b. vertex-fine F (vertexAt i j) (f i j a b))
 
 -- ---- fields that agree on the net
 

@@ -5,4 +5,7 @@ mod vertices;
 
 // For the crates above: callers establish the preconditions.
 pub use sizes::side_after;
+pub use steps::refine_once;
 pub use steps::refine_steps;
+pub use vertices::refined_vertex;
+pub use vertices::store_triangle;

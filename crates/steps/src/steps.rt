@@ -1,5 +1,6 @@
 // One refinement of a lent net, and k of them, which alternate between two lent slices. `refine` and `refined_point`
-// establish the precondition of `refine_steps`, and callers in this file those of the others.
+// establish the precondition of `refine_steps`, merging that of `refine_once`, and callers in this file those of the
+// others.
 use crate::sizes::side_after;
 use crate::vertices::refined_vertex;
 use crate::vertices::store_triangle;
@@ -32,8 +33,9 @@ fn refine_row(net: &[i32], w: usize, h: usize, j: usize, out: &mut [i32])
     }
 }
 
-// One refinement of the net over the front of `out`, row by row.
-fn refine_once(net: &[i32], w: usize, h: usize, out: &mut [i32])
+// One refinement of the net over the front of `out`, row by row. For the steps and for merging, which have refused
+// every other size and length.
+pub fn refine_once(net: &[i32], w: usize, h: usize, out: &mut [i32])
     requires { ⌜ StepReady (now net) w h (now out) ⌝ }
     ensures { λ r. ⌜ now (out .exit) ≡ over (refinedNet (now (net .entry)) w h 1) (now (out .entry)) ⌝ }
 {

@@ -1,5 +1,5 @@
 // The refined control triangle at one vertex of the refined grid, and its storage. One step's loop in `steps.rt`
-// establishes the preconditions.
+// establishes the preconditions, and so do the loops of splitting and merging.
 use net::POINT_STRIDE;
 use net::load;
 use net::store_point;

@@ -8,7 +8,7 @@ use lib.Dec.{ltb}
 use lib.IntN.{ℤ}
 use borrow.Author.Tests.{le-ltb}
 use Rattle.net.specs.Net.{Index, one, two, three, cornerOf, corner, start, vertexNumbers, stride}
-use Rattle.net.specs.Refusals.{badSide, badSize, anyBeyond, AcceptedNet}
+use Rattle.net.specs.Refusals.{badSize, anyBeyond, AcceptedNet}
 use Rattle.net.proofs.Faults.{or-no, cond-false}
 use Rattle.net.proofs.Places.{vertex-ends}
 use Rattle.net.proofs.Ranges.{part-in-range}
@@ -39,13 +39,6 @@ corner-in-net w h p q e g P =
     let c = cells-in-grid w h p q e (on-the-grid 1024 w h p q g) in
     let near = corner-near (t .down) (t .column) (t .row) P in
     (omega (arith, near .0, c .column), omega (arith, near .1, c .row))
-
--- sides from 2 to 1,025
-pub good-sides : (w h : ℕ) → 2 ≤ w → w ≤ 1025 → 2 ≤ h → h ≤ 1025 → badSize w h ≡ false
-good-sides w h a b c d = sym (or-no (badSide w) (badSide h) (side w a b) (sym (side h c d)))
-  where
-    side : (n : ℕ) → 2 ≤ n → n ≤ 1025 → badSide n ≡ false
-    side n low high = sym (or-no (ltb n 2) (ltb 1025 n) (le-ltb n 2 low) (sym (le-ltb 1025 n high)))
 
 pub point-not-refused : (net : List ℤ) (w h : ℕ) → AcceptedNet net w h → (p q : ℕ) → OnGrid 1024 w h p q →
     pointRefusal net w h p q ≡ 0

@@ -12,7 +12,7 @@ use Rattle.exact.specs.Filling.{over}
 use Rattle.exact.proofs.FillingLaws.{sets-over, take-over}
 use Rattle.net.specs.Net.{triangleAt}
 use Rattle.net.specs.Refusals.{badSize, shortNet, accepted, outputAfter}
-use Rattle.net.proofs.Faults.{answered, not-accepted, cond-true, cond-false, when-refused}
+use Rattle.net.proofs.Faults.{or-second, answered, not-accepted, cond-true, cond-false, when-refused}
 use Rattle.places.specs.Places.{chosen}
 use Rattle.places.specs.Refusals.{noPlace}
 use Rattle.triangles.specs.Refusals.{triangleBeyond}
@@ -24,14 +24,10 @@ use Rattle.refine.proofs.CallLaws.{Left}
 use Rattle.refined_points.specs.DemandThree.{Claimed}
 use Rattle.ups.specs.Exports.{bezierExport, pointExport, withRoom}
 
--- a test that is joined by one that fails, and by one that holds
+-- a test that is joined by one that fails
 or-false : (a : Bool) {b : Bool} → b ≡ false → a ≡ (a || b)
 or-false true e = refl
 or-false false e = sym e
-
-pub or-true : (a : Bool) {b : Bool} → b ≡ true → (a || b) ≡ true
-or-true true e = refl
-or-true false e = e
 
 -- `down` is 0 or 1: the Bézier net's own refusals
 pub bezier-export : (net : List ℤ) (w h i j down room : ℕ) → ltb 1 down ≡ false →
@@ -47,7 +43,7 @@ bezier-export net w h i j down room e =
 pub no-kind : (net : List ℤ) (w h i j down room : ℕ) → badSize w h ≡ false → ltb 1 down ≡ true →
     6 ≡ bezierExport net w h i j down room
 no-kind net w h i j down room e₁ e₆ =
-    cond-false (badSize w h) _ _ e₁ (cond-true _ 6 _ (or-true (noTriangle w h i j) e₆))
+    cond-false (badSize w h) _ _ e₁ (cond-true _ 6 _ (or-second (noTriangle w h i j) _ e₆))
 
 -- what the Bézier net's answer and output are to the export
 pub bezier-outcome : (net : List ℤ) (w h i j down : ℕ) (out : List ℤ) {n : ℕ} {l : List ℤ} → ltb 1 down ≡ false →
@@ -152,3 +148,8 @@ claimed-exported net w h k p q {r} values out {after} claim e three left =
     let front : values ≡ take 3 after = sym (take-over values out) ∙ (λ t. take (three t) (over values out))
     ∙ sym (ap (take 3) left) in
     subst (Claimed net w h k p q) (e ∙ (λ t. (r, front t))) claim
+
+-- an output by the number that was answered
+pub output-by : (result out : List ℤ) {n r : ℕ} {l : List ℤ} → n ≡ r → l ≡ outputAfter r result out →
+    l ≡ outputAfter n result out
+output-by result out e q = q ∙ ap (λ (m : ℕ). outputAfter m result out) (sym e)

@@ -2,6 +2,10 @@
 // another number refuses. As in Rust, a slice that is lent to be written overlaps no other.
 use bezier::BezierAnswer;
 use bezier::bezier_net;
+use details::CleanAnswer;
+use details::clean;
+use merge::MergeAnswer;
+use merge::merge;
 use net::bad_size;
 use net::store_point;
 use net::vertex_refusal;
@@ -10,6 +14,8 @@ use reader::read_with;
 use refine::RefineAnswer;
 use refine::refine;
 use refined_points::refined_point_with;
+use split::SplitAnswer;
+use split::split;
 use surface::PointAnswer;
 use surface::ViewAnswer;
 use surface::ViewPoint;
@@ -33,6 +39,11 @@ ghost use Rattle.refine.specs.Answers.{refusalOf, freeScratch};
 ghost use Rattle.refined_points.specs.Answers.{refinedSurfacePoint};
 ghost use Rattle.refined_points.specs.DemandThree.{Claimed};
 ghost use Rattle.words.specs.NetFile.{netFile, fileNumbers};
+ghost use Rattle.details.specs.Refusals.{cleanRefusal};
+ghost use Rattle.details.specs.Cleaning.{cleanedDetails};
+ghost use Rattle.split.specs.Answers.{splitRefusalOf, splitCoarse, splitDetails};
+ghost use Rattle.merge.specs.Merge.{mergedNet};
+ghost use Rattle.merge.specs.Answers.{mergeRefusalOf};
 ghost use Rattle.ups.specs.Exports.{exportedTriangle, bezierExport, pointExport, withRoom, refinedPointExport, writeExport, writtenCount, readExport, readSize};
 
 // 1, 6, 2, or 0: the companion of the vertex part.
@@ -239,5 +250,59 @@ pub extern "C" fn ups_refined_point(
             0
         }
         PointAnswer::Refused(n) => n,
+    }
+}
+
+// The coarse net into `coarse`, and the details into `details`.
+#[no_mangle]
+pub extern "C" fn ups_split(
+    net: &[i32],
+    w: usize,
+    h: usize,
+    coarse: &mut [i32],
+    details: &mut [i32],
+) -> u32
+    ensures { λ r. ⌜ r ≡ splitRefusalOf (now (net .entry)) w h (now (coarse .entry)) (now (details .entry)) ⌝ }
+    ensures { λ r. ⌜ now (coarse .exit) ≡ splitCoarse r (now (net .entry)) w h (now (coarse .entry)) ⌝ }
+    ensures { λ r. ⌜ now (details .exit) ≡ splitDetails r (now (net .entry)) w h (now (details .entry)) ⌝ }
+{
+    let answer = split(net, w, h, coarse, details);
+    match answer {
+        SplitAnswer::Done => 0,
+        SplitAnswer::Refused(n) => n,
+    }
+}
+
+// The net that a coarse net and details merge to into `out`; w and h are those of the coarse net.
+#[no_mangle]
+pub extern "C" fn ups_merge(
+    coarse: &[i32],
+    details: &[i32],
+    w: usize,
+    h: usize,
+    out: &mut [i32],
+) -> u32
+    ensures { λ r. ⌜ r ≡ mergeRefusalOf (now (coarse .entry)) (now (details .entry)) w h (now (out .entry)) ⌝ }
+    ensures { λ r. ⌜ now (out .exit)
+        ≡ outputAfter r (mergedNet (now (coarse .entry)) (now (details .entry)) w h) (now (out .entry)) ⌝ }
+{
+    let answer = merge(coarse, details, w, h, out);
+    match answer {
+        MergeAnswer::Done => 0,
+        MergeAnswer::Refused(n) => n,
+    }
+}
+
+// The details, cleaned in place; w and h are those of the fine net.
+#[no_mangle]
+pub extern "C" fn ups_clean(details: &mut [i32], w: usize, h: usize, t: u32) -> u32
+    ensures { λ r. ⌜ r ≡ cleanRefusal (now (details .entry)) w h t ⌝ }
+    ensures { λ r. ⌜ now (details .exit)
+        ≡ outputAfter r (cleanedDetails (now (details .entry)) w h t) (now (details .entry)) ⌝ }
+{
+    let answer = clean(details, w, h, t);
+    match answer {
+        CleanAnswer::Done => 0,
+        CleanAnswer::Refused(n) => n,
     }
 }

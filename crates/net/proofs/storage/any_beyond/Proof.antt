@@ -10,7 +10,7 @@ use mir.Facts.{toZ-ofZ}
 use mir.Syntax.{w32}
 use mir.Val.{toZ, ofZ}
 use borrow.Author.Needs.{needs, sfits-of}
-use Rattle.net.specs.Refusals.{beyond, anyBeyond}
+use Rattle.net.specs.Refusals.{netLimit, beyond, anyBeyond}
 use Rattle.net.proofs.Faults.{or-yes, or-no}
 use Rattle.net.proofs.Ranges.{any-from}
 use Rattle.net.proofs.storage.any_beyond.Statement.{statement}
@@ -52,7 +52,7 @@ returns c =
     let i = at .before .before .loop .i in
     or-yes (beyond (getD numbers i (pos 0))) (anyBeyond (drop (i + 1) numbers))
     (sym (read at (c .before .number-beyond .ensures)) ∙ c .if1 .taken)
-    ∙ sym (any-from numbers i (at .before .loop-test .taken))
+    ∙ sym (any-from netLimit numbers i (at .before .loop-test .taken))
     ∙ at .before .before .loop .inv .1
 
 add-i : tie.Need-add-i Inv-loop μ-loop
@@ -69,7 +69,7 @@ loop-again c =
       search needs,
       or-no (beyond (getD numbers i (pos 0))) (anyBeyond (drop (i + 1) numbers))
           (sym (read at (c .before .number-beyond .ensures)) ∙ c .if1 .left) refl
-          ∙ sym (any-from numbers i (at .before .loop-test .taken))
+          ∙ sym (any-from netLimit numbers i (at .before .loop-test .taken))
           ∙ at .before .before .loop .inv .1,
     )
 

@@ -8,7 +8,7 @@ use lib.ListN.{take, drop}
 use lib.IntN.{ℤ}
 use borrow.Author.Needs.{needs}
 use Rattle.net.specs.Net.{stride}
-use Rattle.net.specs.Refusals.{anyBeyond}
+use Rattle.net.specs.Refusals.{netLimit, anyBeyond}
 use Rattle.net.proofs.Faults.{or-no}
 use Rattle.net.proofs.Ranges.{any-front, any-longer}
 use Rattle.net.proofs.storage.first_beyond.Statement.{statement}
@@ -35,7 +35,7 @@ module _ (c : tie.After-any-beyond Inv-loop μ-loop) where
       ∙ ap (λ (n : ℕ). anyBeyond (take n (drop (stride * i) net))) one
       ∙ or-no (anyBeyond (take (stride * i) net)) (anyBeyond (take stride (drop (stride * i) net)))
       (c .before .before .before .loop .inv .1) refl
-      ∙ sym (any-front net (stride * i) stride)
+      ∙ sym (any-front netLimit net (stride * i) stride)
 
 loop-holds : tie.Need-loop-holds Inv-loop μ-loop
 loop-holds c = (omega arith, refl)
@@ -65,7 +65,7 @@ returns : tie.Need-returns Inv-loop μ-loop
 returns c =
     let k = c .before in
     let n = k .before .before .before .before .args .n in
-    any-longer (net k) (stride * i k + stride) (stride * n) (omega arith) (sym (up-to k) ∙ c .if1 .taken)
+    any-longer netLimit (net k) (stride * i k + stride) (stride * n) (omega arith) (sym (up-to k) ∙ c .if1 .taken)
 
 add-i : tie.Need-add-i Inv-loop μ-loop
 add-i c = search needs

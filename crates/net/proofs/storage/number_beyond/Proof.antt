@@ -4,21 +4,21 @@ use lib.IntN.{ℤ, pos, negsuc}
 use lib.Signed.{ltZ}
 use mir.Facts.{toZ-ofZ}
 use Rattle.exact.proofs.SignedCode.{less-taken, less-left}
-use Rattle.net.proofs.Ranges.{beyond-below, beyond-above}
+use Rattle.net.proofs.Ranges.{outside-below, outside-above}
 use Rattle.net.proofs.storage.number_beyond.Statement.{statement}
 use Rattle.net.proofs.storage.number_beyond.Tie as tie
 
 returns : tie.Need-returns
 returns c =
     let read = toZ-ofZ (c .before .fits .z) in
-    beyond-below (c .before .args .z)
+    outside-below 16777215 (c .before .args .z)
     (less-taken (c .before .args .z) _ (ap (λ (x : ℤ). ltZ x (negsuc 16777215)) (sym read) ∙ c .if1 .taken))
 
 returns-2 : tie.Need-returns-2
 returns-2 c =
     let read = toZ-ofZ (c .before .fits .z) in
     ap (ltZ (pos 16777216)) read
-    ∙ beyond-above (c .before .args .z)
+    ∙ outside-above 16777215 (c .before .args .z)
     (less-left (c .before .args .z) _ (ap (λ (x : ℤ). ltZ x (negsuc 16777215)) (sym read) ∙ c .if1 .left))
 
 pub number-beyond-spec : {M : Type 1} → statement M

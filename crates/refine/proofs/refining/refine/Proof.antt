@@ -6,10 +6,11 @@ use lib.IntN.{ℤ}
 use lib.ListN.{length}
 use borrow.Author.Needs.{needs}
 use borrow.Author.Tests.{ltb-false}
+use Rattle.net.proofs.Faults.{carried-out, not-carried-out}
 use Rattle.steps.specs.RefinedNet.{refinedNet}
 use Rattle.refine.specs.Answers.{refusalOf}
 use Rattle.refine.proofs.Refinable.{Refinable, refine-accepted}
-use Rattle.refine.proofs.CallLaws.{left-accepted, left-refused, carried-out, not-carried-out}
+use Rattle.refine.proofs.CallLaws.{left-accepted, left-refused}
 use Rattle.refine.proofs.refining.refine.Statement.{statement}
 use Rattle.refine.proofs.refining.refine.Tie as tie
 

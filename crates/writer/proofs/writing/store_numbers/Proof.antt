@@ -12,6 +12,7 @@ use mir.Val.{toZ, ofZ}
 use borrow.Author.Needs.{needs}
 use Rattle.exact.proofs.SignedCode.{reads-back}
 use Rattle.net.specs.Net.{number}
+use Rattle.net.specs.Refusals.{netLimit}
 use Rattle.net.proofs.Ranges.{in-range}
 use Rattle.words.specs.NetFile.{word, complement, xKind, yKind, zKind, numberBytes, pointBytes, pointSize}
 use Rattle.writer.proofs.WriteLaws.{words-stored}
@@ -54,7 +55,7 @@ module _ (c : tie.After-z) where
   small : (i : ℕ) → i < from + 3 → {u : ℤ} → u ≡ number net i → natAbs u ≤ 16777216
   small i h e =
       subst (λ (v : ℤ). natAbs v ≤ 16777216) (sym e)
-      (in-range net (c .before .before .before .before .pre .2) i
+      (in-range netLimit net (c .before .before .before .before .pre .2) i
       (omega (arith, h, c .before .before .before .before .pre .0)))
 
   room : at + pointSize ≤ length out

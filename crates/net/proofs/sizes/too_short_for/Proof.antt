@@ -1,13 +1,13 @@
--- `netfile::copying::too_short_for` meets its contract.
+-- `net::sizes::too_short_for` meets its contract.
 use mathlib.Core.Path.{_≡_, refl, sym, _∙_}
 use mathlib.Core.Bool.{false}
 use native.Mathlib.Omega.{arith}
 use borrow.Author.Needs.{needs}
 use Rattle.net.specs.Refusals.{badSize}
 use Rattle.net.proofs.Places.{good-size, few-vertices}
 use Rattle.net.proofs.Faults.{cond-true, cond-false}
-use Rattle.netfile.proofs.copying.too_short_for.Statement.{statement}
-use Rattle.netfile.proofs.copying.too_short_for.Tie as tie
+use Rattle.net.proofs.sizes.too_short_for.Statement.{statement}
+use Rattle.net.proofs.sizes.too_short_for.Tie as tie
 
 size : (c : tie.Else1) → badSize (c .before .before .args .w) (c .before .before .args .h) ≡ false
 size c = sym (c .before .bad-size .ensures) ∙ c .if1 .left

@@ -1,0 +1,3 @@
+-- The laws of details.
+pub mod DetailLaws
+pub mod CutDetails

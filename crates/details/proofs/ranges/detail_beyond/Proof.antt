@@ -1,0 +1,25 @@
+-- `details::ranges::detail_beyond` meets its contract.
+use mathlib.Core.Path.{sym, ap, _∙_}
+use lib.IntN.{ℤ, pos, negsuc}
+use lib.Signed.{ltZ}
+use mir.Facts.{toZ-ofZ}
+use Rattle.exact.proofs.SignedCode.{less-taken, less-left}
+use Rattle.net.proofs.Ranges.{outside-below, outside-above}
+use Rattle.details.proofs.ranges.detail_beyond.Statement.{statement}
+use Rattle.details.proofs.ranges.detail_beyond.Tie as tie
+
+returns : tie.Need-returns
+returns c =
+    let read = toZ-ofZ (c .before .fits .z) in
+    outside-below 33554431 (c .before .args .z)
+    (less-taken (c .before .args .z) _ (ap (λ (x : ℤ). ltZ x (negsuc 33554431)) (sym read) ∙ c .if1 .taken))
+
+returns-2 : tie.Need-returns-2
+returns-2 c =
+    let read = toZ-ofZ (c .before .fits .z) in
+    ap (ltZ (pos 33554432)) read
+    ∙ outside-above 33554431 (c .before .args .z)
+    (less-left (c .before .args .z) _ (ap (λ (x : ℤ). ltZ x (negsuc 33554431)) (sym read) ∙ c .if1 .left))
+
+pub detail-beyond-spec : {M : Type 1} → statement M
+detail-beyond-spec = tie.close (tie.spec returns returns-2)

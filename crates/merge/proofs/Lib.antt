@@ -1,0 +1,3 @@
+-- The laws of merging.
+pub mod MergeLaws
+pub mod CutNets

@@ -1,0 +1,161 @@
+-- The coarse value of three numbers: its sum, its size, and that the detail at a kept vertex is zero.
+use mathlib.Core.Path.{_≡_, refl, _∙_}
+use mathlib.Core.Bool.{false}
+use mathlib.Core.List.{List, [], _∷_}
+use Prim.Native.Nat.{ℕ, _+_, _*_, _/_, _%_, _≤_, _<_}
+use native.Mathlib.Nat.{le-trans, mul-le-mul}
+use native.Mathlib.Omega.{arith}
+use lib.Dec.{lit<, lit≤}
+use lib.IntN.{ℤ, pos, negsuc, natAbs, _+ℤ_, _-ℤ_, _*ℤ_}
+use lib.ListN.{length}
+use borrow.Author.Tests.{ltb-false, le-ltb}
+use mir.Syntax.{w32}
+use mir.Val.{SFits}
+use Rattle.exact.specs.Rounding.{rounded}
+use Rattle.exact.specs.Filling.{runs}
+use Rattle.exact.specs.WeightedSum.{weightedSum}
+use Rattle.exact.proofs.Expressions.{var, lit, _⊕_, _⊖_, _⊗_, identity}
+use Rattle.exact.proofs.Linear.{expression-parts}
+use Rattle.exact.proofs.Parts.{integers, difference-parts, size-parts}
+use Rattle.exact.proofs.RoundingLaws.{nearest, rounded-size}
+use Rattle.exact.proofs.Sizes.{value-bound, fits-of-size}
+use Rattle.net.specs.Net.{Index, one, two, three, Field, vertexAt, vertexOf, numbers, start, stride, vertexNumbers}
+use Rattle.net.specs.Refusals.{netLimit, badSize, anyBeyond, AcceptedNet}
+use Rattle.net.proofs.Grids.{vertex-in-grid}
+use Rattle.net.proofs.Places.{good-size, few-vertices, vertex-ends}
+use Rattle.net.proofs.Ranges.{part-in-range}
+use Rattle.subdivision.specs.Refinement.{isOdd, kindBy, beginBy, endBy, keptControl, ruleBy, exactRefinement, refinement}
+use Rattle.steps.specs.RefinedNet.{vertexRun}
+use Rattle.steps.proofs.StoredNets.{stored-beyond, stored-by-number}
+use Rattle.split.specs.Split.{coarseSide, coarsened, coarseFields, coarseNet, detailOf}
+use Rattle.split.specs.Refusals.{coarseBeyond}
+use Rattle.split.specs.Promises.{KeptDetails}
+
+pub coarse-sum : (c a b : ℤ) →
+    weightedSum (pos 5 ∷ negsuc 0 ∷ negsuc 0 ∷ []) (c ∷ a ∷ b ∷ []) ≡ pos 5 *ℤ c -ℤ (a +ℤ b)
+unfolding weightedSum
+coarse-sum c a b =
+    identity
+    (lit (pos 5) ⊗ var 0 ⊕ (lit (negsuc 0) ⊗ var 1 ⊕ (lit (negsuc 0) ⊗ var 2 ⊕ lit (pos 0))))
+    (lit (pos 5) ⊗ var 0 ⊖ (var 1 ⊕ var 2)) (c ∷ a ∷ b ∷ []) refl
+
+-- of numbers in the net range, 7 times the limit over 3 at most
+pub coarse-fits : (c a b : ℤ) → natAbs c ≤ netLimit → natAbs a ≤ netLimit → natAbs b ≤ netLimit →
+    SFits w32 (rounded (pos 5 *ℤ c -ℤ (a +ℤ b)) 3)
+coarse-fits c a b h k l =
+    let size =
+    value-bound (c ∷ a ∷ b ∷ []) (netLimit ∷ netLimit ∷ netLimit ∷ []) (lit (pos 5) ⊗ var 0 ⊖ (var 1 ⊕ var 2))
+    (h, (k, (l, tt))) in
+    fits-of-size (rounded-size (pos 5 *ℤ c -ℤ (a +ℤ b)) 3 39146838 (lit< tt) (le-trans size (lit≤ tt))) tt
+
+-- ---- the coarse net, vertex by vertex
+
+-- the numbers of vertex n of the coarse net
+abbrev pub coarseRun : List ℤ → ℕ → ℕ → List ℤ
+coarseRun net w n = vertexRun (coarseFields net w) (vertexOf (coarseSide w) n)
+
+pub coarse-by-number : (net : List ℤ) (w h : ℕ) → coarseNet net w h ≡ runs (coarseSide w * coarseSide h) (coarseRun net w)
+unfolding coarseNet
+coarse-by-number net w h = stored-by-number (coarseFields net w) (coarseSide w) (coarseSide h)
+
+pub coarse-tested : (net : List ℤ) (w h : ℕ) →
+    coarseBeyond net w h ≡ anyBeyond (runs (coarseSide w * coarseSide h) (coarseRun net w))
+unfolding coarseNet
+coarse-tested net w h = stored-beyond (coarseFields net w) (coarseSide w) (coarseSide h)
+
+-- the sides of a net are small, and so are those of its coarse net
+pub record SmallSides (w h : ℕ) : Type 0 where
+  pub wide : 2 ≤ w
+  pub narrow : w ≤ 1025
+  pub low : h ≤ 1025
+  pub many : w * h ≤ 1050625
+  pub few : coarseSide w * coarseSide h ≤ 263169
+
+pub small-sides : (w h : ℕ) → badSize w h ≡ false → SmallSides w h
+small-sides w h e =
+    let s = good-size w h e in
+    let wide : coarseSide w ≤ 513 = omega (arith, s .narrow) in
+    let high : coarseSide h ≤ 513 = omega (arith, s .low) in
+    record { wide = s .wide; narrow = s .narrow; low = s .low; many = few-vertices s; few = mul-le-mul wide high }
+
+-- the vertex that is kept lies in the net
+pub kept-vertex : (net : List ℤ) (w h n : ℕ) → AcceptedNet net w h → n < coarseSide w * coarseSide h →
+    (let v = vertexAt (2 * (n % coarseSide w)) (2 * (n / coarseSide w)) in
+    (1 ≤ w) × (start w v + stride ≤ length net) × (anyBeyond (vertexNumbers net w v) ≡ false))
+kept-vertex net w h n a k =
+    let s = good-size w h (a .size) in
+    let long : numbers w h ≤ length net = ltb-false (length net) (numbers w h) (a .long) in
+    let in-grid = vertex-in-grid (coarseSide w) (coarseSide h) n k in
+    let i = 2 * (n % coarseSide w) in
+    let j = 2 * (n / coarseSide w) in
+    let ends = vertex-ends {w = w} {h = h} {i = i} {j = j} (omega (arith, in-grid .0)) (omega (arith, in-grid .1)) in (
+      omega (arith, s .wide),
+      omega (arith, ends, long),
+      part-in-range net w h (start w (vertexAt i j)) stride (a .inRange) ends,
+    )
+
+-- ---- the detail at a kept vertex
+
+-- from the nearest law of rounding alone: a coarse value times 3 is 5c - a - b with an error of at most 1, so the refined
+-- value, 12 times which is nearest to twice 4g + p + q of the coarse values g, p, q, is the one of the net
+kept-value : (c a b : ℤ) →
+    (let g = rounded (pos 5 *ℤ c -ℤ (a +ℤ b)) 3 in
+    let p = rounded (pos 5 *ℤ a -ℤ (b +ℤ c)) 3 in
+    let q = rounded (pos 5 *ℤ b -ℤ (c +ℤ a)) 3 in
+    rounded (pos 2 *ℤ (pos 4 *ℤ g +ℤ p +ℤ q)) 12 ≡ c)
+kept-value c a b =
+    let x = pos 5 *ℤ c -ℤ (a +ℤ b) in
+    let y = pos 5 *ℤ a -ℤ (b +ℤ c) in
+    let z = pos 5 *ℤ b -ℤ (c +ℤ a) in
+    let g = rounded x 3 in
+    let p = rounded y 3 in
+    let q = rounded z 3 in
+    let n = pos 2 *ℤ (pos 4 *ℤ g +ℤ p +ℤ q) in
+    let r = rounded n 12 in
+    let ρ = c ∷ a ∷ b ∷ g ∷ p ∷ q ∷ r ∷ [] in
+    let sum = lit (pos 2) ⊗ (lit (pos 4) ⊗ var 3 ⊕ var 4 ⊕ var 5) in
+    let near-g = nearest x 3 (lit< tt) in
+    let near-p = nearest y 3 (lit< tt) in
+    let near-q = nearest z 3 (lit< tt) in
+    let near-r = nearest n 12 (lit< tt) in
+    omega (
+      integers,
+      near-g,
+      near-p,
+      near-q,
+      near-r,
+      size-parts (pos 3 *ℤ g -ℤ x),
+      size-parts (pos 3 *ℤ p -ℤ y),
+      size-parts (pos 3 *ℤ q -ℤ z),
+      size-parts (pos 12 *ℤ r -ℤ n),
+      expression-parts ρ (lit (pos 3) ⊗ var 3 ⊖ (lit (pos 5) ⊗ var 0 ⊖ (var 1 ⊕ var 2))),
+      expression-parts ρ (lit (pos 3) ⊗ var 4 ⊖ (lit (pos 5) ⊗ var 1 ⊖ (var 2 ⊕ var 0))),
+      expression-parts ρ (lit (pos 3) ⊗ var 5 ⊖ (lit (pos 5) ⊗ var 2 ⊖ (var 0 ⊕ var 1))),
+      expression-parts ρ (lit (pos 12) ⊗ var 6 ⊖ sum),
+    )
+
+-- an even column or row, halved
+even-side : (n : ℕ) → (isOdd (2 * n) ≡ false) × (2 * n / 2 ≡ n)
+even-side n = (le-ltb (2 * (2 * n / 2)) (2 * n) (omega arith), omega arith)
+
+kept-refined : (G : Field) (i j : ℕ) (k : Index) →
+    refinement G (vertexAt (2 * i) (2 * j)) k ≡ rounded (keptControl (G (vertexAt i j)) k) 12
+unfolding refinement exactRefinement
+kept-refined G i j k =
+    let e = even-side i in
+    let f = even-side j in
+    λ t.
+    let kind = kindBy (e .0 t) (f .0 t) in
+    rounded (ruleBy kind (G (beginBy kind (e .1 t) (f .1 t))) (G (endBy kind (e .1 t) (f .1 t))) k) 12
+
+no-difference : {a b : ℤ} → b ≡ a → a -ℤ b ≡ pos 0
+no-difference {a} {b} e = omega (integers, difference-parts a b)
+
+pub kept-details : KeptDetails
+unfolding detailOf coarsened
+kept-details F i j k = no-difference (kept-refined (coarsened F) i j k ∙ at k)
+  where
+    at : (k : Index) → rounded (keptControl (coarsened F (vertexAt i j)) k) 12 ≡ F (vertexAt (2 * i) (2 * j)) k
+    at one = kept-value (F (vertexAt (2 * i) (2 * j)) one) (F (vertexAt (2 * i) (2 * j)) two) (F (vertexAt (2 * i) (2 * j)) three)
+    at two = kept-value (F (vertexAt (2 * i) (2 * j)) two) (F (vertexAt (2 * i) (2 * j)) three) (F (vertexAt (2 * i) (2 * j)) one)
+    at three = kept-value (F (vertexAt (2 * i) (2 * j)) three) (F (vertexAt (2 * i) (2 * j)) one) (F (vertexAt (2 * i) (2 * j)) two)
