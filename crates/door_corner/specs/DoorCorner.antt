@@ -15,7 +15,7 @@ use Rattle.bezier.specs.BezierNet.{bezierPoints}
 use Rattle.surface.specs.SurfacePoint.{coordinate}
 use Rattle.subdivision.specs.Refinement.{refinement, exactRefinement}
 use Rattle.steps.specs.RefinedNet.{stored, refinedNet}
-use Rattle.split.specs.Split.{coarsened, coarseNet}
+use Rattle.coarse.specs.Coarse.{coarsened, coarseNet}
 use Rattle.words.specs.NetFile.{zKind, numberBytes, wordBytes}
 
 -- the nine numbers of vertex (i, j), where a = 1200i, b = 1200j and c1 has height z: 'x of c1, c2, c3 is 1200i + 600,

@@ -14,7 +14,7 @@ use Rattle.net.proofs.Faults.{or-none, Clear, none-clear, fault-before, fault-a
 use Rattle.details.specs.Refusals.{tooGreat}
 use Rattle.details.specs.Cleaning.{cleanOutput}
 use Rattle.details.proofs.DetailLaws.{cleans}
-use Rattle.split.specs.Split.{coarseSide, coarseNet}
+use Rattle.coarse.specs.Coarse.{coarseSide, coarseNet}
 use Rattle.split.specs.Refusals.{oddFaults, splitFaults, outputsShort}
 use Rattle.split.specs.Answers.{SplitContract}
 use Rattle.split.specs.declared.answers.SplitAnswer.{SplitAnswer}

@@ -28,7 +28,8 @@ use Rattle.details.specs.Details.{detailNumbers, detailPointStride, detailStart
 use Rattle.details.specs.Refusals.{detailsBeyond}
 use Rattle.details.specs.Cleaning.{Cleaned, cleanOutput}
 use Rattle.details.proofs.DetailLaws.{details-length, detail-number, details-field, cleans, cleaned-in-range, clean-accepted}
-use Rattle.split.specs.Split.{coarseSide, coarseFields, detailOf, netDetails}
+use Rattle.coarse.specs.Coarse.{coarseSide, coarseFields}
+use Rattle.split.specs.Split.{detailOf, netDetails}
 use Rattle.split.specs.Answers.{splitRefusalOf}
 use Rattle.split.proofs.SplitLaws.{Splittable, split-accepted, odd-sides, coarse-taken, coarse-refined, details-small}
 use Rattle.merge.specs.Merge.{merged, mergedNet}

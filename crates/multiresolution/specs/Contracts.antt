@@ -14,7 +14,7 @@ use Rattle.net.specs.Refusals.{Fault, firstFault, accepted, netBeyond, outputAf
 use Rattle.steps.specs.RefinedNet.{stored}
 use Rattle.details.specs.Refusals.{tooGreat}
 use Rattle.details.specs.Cleaning.{cleanOutput}
-use Rattle.split.specs.Split.{coarseSide, coarsened, coarseNet}
+use Rattle.coarse.specs.Coarse.{coarseSide, coarsened, coarseNet}
 use Rattle.split.specs.Refusals.{oddFaults, splitFaults, outputsShort}
 use Rattle.split.specs.Answers.{splitRefusalWith, splitCoarse, splitDetails}
 use Rattle.merge.specs.Merge.{mergedNet}

@@ -11,7 +11,8 @@ use Rattle.exact.specs.Filling.{over}
 use Rattle.net.specs.Net.{Index, vertexAt, numbers, field}
 use Rattle.details.specs.Refusals.{tooGreat, cleanRefusal}
 use Rattle.details.specs.Cleaning.{Cleaned, cleanOutput}
-use Rattle.split.specs.Split.{coarseSide, coarseNet, netDetails}
+use Rattle.coarse.specs.Coarse.{coarseSide, coarseNet}
+use Rattle.split.specs.Split.{netDetails}
 use Rattle.split.specs.Answers.{splitRefusalOf}
 use Rattle.merge.specs.Answers.{mergeRefusalOf, mergeOutput}
 

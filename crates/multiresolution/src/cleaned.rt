@@ -13,7 +13,7 @@ ghost use mathlib.Core.List.{[], _∷_, _++_};
 ghost use Rattle.net.specs.Refusals.{firstFault, badSize};
 ghost use Rattle.details.specs.Refusals.{tooGreat};
 ghost use Rattle.details.specs.Cleaning.{cleanOutput};
-ghost use Rattle.split.specs.Split.{coarseSide};
+ghost use Rattle.coarse.specs.Coarse.{coarseSide};
 ghost use Rattle.split.specs.Refusals.{oddFaults};
 ghost use Rattle.merge.specs.Answers.{MergeContract};
 ghost use Rattle.multiresolution.specs.Contracts.{CleanedNet};

@@ -13,7 +13,8 @@ use Rattle.net.proofs.Places.{vertex-ends}
 use Rattle.steps.proofs.StoredNets.{Agree, stored-same, refinement-local}
 use Rattle.details.specs.Refusals.{evenSize}
 use Rattle.details.proofs.DetailLaws.{details-same}
-use Rattle.split.specs.Split.{coarseSide, coarseControl, coarsened, coarseFields, coarseNet, detailOf, netDetails}
+use Rattle.coarse.specs.Coarse.{coarseSide, coarseControl, coarsened, coarseFields, coarseNet}
+use Rattle.split.specs.Split.{detailOf, netDetails}
 use Rattle.split.specs.Refusals.{oddFaults, splitRefusal}
 use Rattle.split.proofs.SplitLaws.{odd-sides}
 

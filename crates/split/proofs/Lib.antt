@@ -1,4 +1,3 @@
 -- The laws of splitting.
-pub mod CoarseLaws
 pub mod SplitLaws
 pub mod CutNets

@@ -1,31 +1,35 @@
--- What is known of a net that is split: sides, ranges and the details against a coarse net.
+-- What is known of a net that is split: sides, ranges, the details against a coarse net, and that those at kept vertices
+-- are zero.
 use mathlib.Core.Path.{_≡_, sym, ap, subst, _∙_}
 use mathlib.Core.Bool.{Bool, false, _||_}
 use mathlib.Core.List.{List, _++_}
-use Prim.Native.Nat.{ℕ, _+_, _-_, _*_, _%_, _≤_, _<_}
+use Prim.Native.Nat.{ℕ, _+_, _-_, _*_, _/_, _%_, _≤_, _<_}
 use native.Mathlib.Omega.{arith}
 use lib.Dec.{ltb, lit<}
-use lib.IntN.{ℤ, natAbs, _-ℤ_}
+use lib.IntN.{ℤ, pos, natAbs, _-ℤ_}
 use lib.ListN.{length}
-use borrow.Author.Tests.{ltb-false, eqb-false}
+use borrow.Author.Tests.{ltb-false, le-ltb, eqb-false}
 use Rattle.exact.specs.Filling.{over, runs}
+use Rattle.exact.specs.Rounding.{rounded}
+use Rattle.exact.proofs.Parts.{integers, difference-parts}
 use Rattle.exact.proofs.Order.{size-difference}
-use Rattle.net.specs.Net.{Index, vertexAt, vertexOf, numbers, field}
+use Rattle.net.specs.Net.{Index, one, two, three, Field, vertexAt, vertexOf, numbers, field}
 use Rattle.net.specs.Refusals.{netLimit, badSize, anyBeyond, AcceptedNet}
 use Rattle.net.proofs.Accepted.{good-sides, accepted-over, accepted-vertex}
 use Rattle.net.proofs.Faults.{or-none, none-clear}
 use Rattle.net.proofs.Grids.{grid-by-number}
 use Rattle.net.proofs.Places.{good-size}
-use Rattle.subdivision.specs.Refinement.{refinedSide, refinement}
+use Rattle.subdivision.specs.Refinement.{refinedSide, isOdd, kindBy, beginBy, endBy, keptControl, ruleBy, exactRefinement, refinement}
 use Rattle.steps.proofs.StoredNets.{stored-length, stored-field, refinement-local}
 use Rattle.refine.proofs.RefinedNets.{refined-size}
 use Rattle.details.specs.Details.{detailNumbers, detailRun, storedDetails}
 use Rattle.details.specs.Refusals.{evenSide, evenSize, detailsBeyond}
 use Rattle.details.proofs.DetailLaws.{details-same, details-in-range}
-use Rattle.split.specs.Split.{coarseSide, coarseFields, coarseNet, detailOf, detailsAgainst, netDetails}
-use Rattle.split.specs.Refusals.{outputsShort, coarseBeyond, oddFaults, splitFaults, splitRefusal}
-use Rattle.split.specs.Promises.{CoarseAccepted, DetailsWithin}
-use Rattle.split.proofs.CoarseLaws.{coarse-by-number, coarse-tested}
+use Rattle.coarse.specs.Coarse.{coarseBeyond, coarseSide, coarsened, coarseFields, coarseNet}
+use Rattle.split.specs.Split.{detailOf, detailsAgainst, netDetails}
+use Rattle.split.specs.Refusals.{outputsShort, oddFaults, splitFaults, splitRefusal}
+use Rattle.split.specs.Promises.{KeptDetails, CoarseAccepted, DetailsWithin}
+use Rattle.coarse.proofs.CoarseLaws.{coarse-by-number, coarse-tested, kept-value}
 
 -- ---- sides
 
@@ -52,6 +56,8 @@ details-by-number net coarse w h =
 
 -- ---- where nothing is refused
 
+-- what splitting needs: an accepted net of odd sides, room for its coarse net and for its details, and every coarse value
+-- in the net range
 pub record Splittable (net : List ℤ) (w h room detailRoom : ℕ) : Type 0 where
   pub given : AcceptedNet net w h
   pub odd : evenSize w h ≡ false
@@ -140,3 +146,31 @@ coarse-accepted net w h short coarse details e =
 pub details-within : DetailsWithin
 details-within net w h short coarse details e =
     details-small net w h coarse (split-accepted net w h short (length coarse) (length details) e) details
+
+-- ---- the detail at a kept vertex
+
+-- an even column or row, halved
+even-side : (n : ℕ) → (isOdd (2 * n) ≡ false) × (2 * n / 2 ≡ n)
+even-side n = (le-ltb (2 * (2 * n / 2)) (2 * n) (omega arith), omega arith)
+
+kept-refined : (G : Field) (i j : ℕ) (k : Index) →
+    refinement G (vertexAt (2 * i) (2 * j)) k ≡ rounded (keptControl (G (vertexAt i j)) k) 12
+unfolding refinement exactRefinement
+kept-refined G i j k =
+    let e = even-side i in
+    let f = even-side j in
+    λ t.
+    let kind = kindBy (e .0 t) (f .0 t) in
+    rounded (ruleBy kind (G (beginBy kind (e .1 t) (f .1 t))) (G (endBy kind (e .1 t) (f .1 t))) k) 12
+
+no-difference : {a b : ℤ} → b ≡ a → a -ℤ b ≡ pos 0
+no-difference {a} {b} e = omega (integers, difference-parts a b)
+
+pub kept-details : KeptDetails
+unfolding detailOf coarsened
+kept-details F i j k = no-difference (kept-refined (coarsened F) i j k ∙ at k)
+  where
+    at : (k : Index) → rounded (keptControl (coarsened F (vertexAt i j)) k) 12 ≡ F (vertexAt (2 * i) (2 * j)) k
+    at one = kept-value (F (vertexAt (2 * i) (2 * j)) one) (F (vertexAt (2 * i) (2 * j)) two) (F (vertexAt (2 * i) (2 * j)) three)
+    at two = kept-value (F (vertexAt (2 * i) (2 * j)) two) (F (vertexAt (2 * i) (2 * j)) three) (F (vertexAt (2 * i) (2 * j)) one)
+    at three = kept-value (F (vertexAt (2 * i) (2 * j)) three) (F (vertexAt (2 * i) (2 * j)) one) (F (vertexAt (2 * i) (2 * j)) two)

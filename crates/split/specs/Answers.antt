@@ -12,7 +12,8 @@ use Rattle.net.specs.Refusals.{netBeyond, outputAfter, answerBy}
 use Rattle.subdivision.specs.Refinement.{refinement, exactRefinement}
 use Rattle.steps.specs.RefinedNet.{stored}
 use Rattle.details.specs.Details.{storedDetails}
-use Rattle.split.specs.Split.{coarsened, coarseNet, detailOf, netDetails}
+use Rattle.coarse.specs.Coarse.{coarsened, coarseNet}
+use Rattle.split.specs.Split.{detailOf, netDetails}
 use Rattle.split.specs.Refusals.{outputsShort, splitRefusal}
 use Rattle.split.specs.declared.answers.SplitAnswer.{SplitAnswer}
 use Rattle.split.specs.declared.answers.SplitAnswer.the-variants as answer

@@ -1,7 +1,5 @@
--- The definitions that contracts cite: the coarse net and the details of a net, the refusals, and what splitting
--- answers.
+-- The definitions that contracts cite: the details of a net, the refusals, and what splitting answers.
 pub mod Split
-pub mod Rules
 pub mod Refusals
 pub mod Answers
 pub mod Promises

@@ -7,7 +7,8 @@ use lib.IntN.{ℤ, pos}
 use Rattle.net.specs.Net.{Index, vertexAt, Field}
 use Rattle.net.specs.Refusals.{AcceptedNet}
 use Rattle.details.specs.Refusals.{detailsBeyond}
-use Rattle.split.specs.Split.{coarseSide, coarsened, detailOf}
+use Rattle.coarse.specs.Coarse.{coarseSide, coarsened}
+use Rattle.split.specs.Split.{detailOf}
 use Rattle.split.specs.Answers.{splitRefusalWith, splitCoarse, splitDetails}
 
 -- 'at kept vertices it is always zero': of every field (`kept-details`)

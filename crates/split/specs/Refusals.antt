@@ -13,17 +13,15 @@ use Rattle.net.specs.Refusals.{Fault, firstFault, badSize, shortNet, netBeyond}
 use Rattle.steps.specs.RefinedNet.{stored}
 use Rattle.details.specs.Details.{detailNumbers}
 use Rattle.details.specs.Refusals.{evenSize}
-use Rattle.split.specs.Split.{coarseSide, coarsened, coarseNet}
+use Rattle.coarse.specs.Coarse.{coarseSide, coarsened, coarseNet, coarseBeyond}
 
 -- 5: an output of `room` numbers is shorter than the coarse net, or one of `detailRoom` shorter than the details
 abbrev pub outputsShort : ℕ → ℕ → ℕ → ℕ → Bool
 outputsShort w h room detailRoom =
     ltb room (numbers (coarseSide w) (coarseSide h)) || ltb detailRoom (detailNumbers w h)
 
--- 11: a coarse value outside the net range. Details need no test: a net value and a refined value both lie within the
--- net range, so their difference lies within twice that range, which is the range of details (`details-within`)
-abbrev pub coarseBeyond : List ℤ → ℕ → ℕ → Bool
-coarseBeyond net w h = netBeyond (coarseNet net w h) (coarseSide w) (coarseSide h)
+-- 11 is of the coarse net alone. Details need no test: a net value and a refined value both lie within the net range,
+-- so their difference lies within twice that range, which is the range of details (`details-within`)
 
 -- the rows that look at sizes alone, and those that look at the net; `short` is whether a lent output is too short
 abbrev pub oddFaults : ℕ → ℕ → List Fault

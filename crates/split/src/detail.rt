@@ -13,8 +13,8 @@ ghost use Rattle.exact.specs.Filling.{over};
 ghost use Rattle.net.specs.Refusals.{netLimit, AcceptedNet};
 ghost use Rattle.details.specs.Details.{PointWithin, ControlsWithin, detailNumbers};
 ghost use Rattle.details.specs.Refusals.{evenSize};
-ghost use Rattle.split.specs.Split.{coarseSide, detailsAgainst};
-ghost use Rattle.split.specs.Rules.{differencePoint, differences};
+ghost use Rattle.coarse.specs.Coarse.{coarseSide};
+ghost use Rattle.split.specs.Split.{detailsAgainst, differencePoint, differences};
 
 // Of numbers in the net range the difference fits.
 fn difference(a: i32, b: i32) -> i32

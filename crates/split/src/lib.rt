@@ -1,6 +1,5 @@
 // Splitting a net into a coarse net and details.
 mod answers;
-mod coarse;
 mod detail;
 mod splitting;
 

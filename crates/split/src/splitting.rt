@@ -1,8 +1,8 @@
 // Splitting: nothing is written before it is known that nothing is refused.
 use crate::answers::SplitAnswer;
-use crate::coarse::coarse_beyond;
-use crate::coarse::store_coarse;
 use crate::detail::store_differences;
+use coarse::coarse_beyond;
+use coarse::store_coarse;
 use details::DETAIL_STRIDE;
 use details::even_size;
 use net::STRIDE;

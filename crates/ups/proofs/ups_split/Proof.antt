@@ -2,7 +2,8 @@
 use mathlib.Core.Path.{_≡_, sym, ap, _∙_}
 use Prim.Native.Nat.{ℕ}
 use borrow.Author.Needs.{needs}
-use Rattle.split.specs.Split.{coarseNet, netDetails}
+use Rattle.coarse.specs.Coarse.{coarseNet}
+use Rattle.split.specs.Split.{netDetails}
 use Rattle.split.specs.Answers.{splitOutcome, splitRefusalOf}
 use Rattle.ups.proofs.Exports.{output-by}
 use Rattle.ups.proofs.ups_split.Statement.{statement}

@@ -5,7 +5,7 @@ use native.Mathlib.Omega.{arith}
 use lib.IntN.{ℤ}
 use borrow.Author.Needs.{needs}
 use Rattle.net.proofs.Places.{GoodSize, good-size}
-use Rattle.split.specs.Split.{coarseSide}
+use Rattle.coarse.specs.Coarse.{coarseSide}
 use Rattle.merge.specs.Answers.{MergeContract}
 use Rattle.multiresolution.proofs.cleaned.clean_and_merge.Statement.{statement}
 use Rattle.multiresolution.proofs.cleaned.clean_and_merge.Tie as tie

@@ -18,9 +18,9 @@ use Rattle.steps.specs.RefinedNet.{refinedControls}
 use Rattle.refine.proofs.RefinedNets.{refined-at}
 use Rattle.details.specs.Details.{detailStride, ControlsWithin}
 use Rattle.details.proofs.DetailLaws.{stored-details}
-use Rattle.split.specs.Split.{coarseSide, detailOf}
-use Rattle.split.specs.Rules.{differences}
-use Rattle.split.proofs.CoarseLaws.{SmallSides, small-sides}
+use Rattle.coarse.specs.Coarse.{coarseSide}
+use Rattle.split.specs.Split.{detailOf, differences}
+use Rattle.coarse.proofs.CoarseLaws.{SmallSides, small-sides}
 use Rattle.split.proofs.SplitLaws.{odd-sides, detailsOf, details-by-number}
 use Rattle.split.proofs.detail.store_differences.Statement.{statement}
 use Rattle.split.proofs.detail.store_differences.Tie as tie

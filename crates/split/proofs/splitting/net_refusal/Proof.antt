@@ -6,7 +6,8 @@ use borrow.Author.Needs.{needs}
 use borrow.Author.Tests.{ltb-false}
 use Rattle.net.specs.Refusals.{firstFault, shortNet, netBeyond}
 use Rattle.net.proofs.Faults.{cond-true, cond-false}
-use Rattle.split.specs.Refusals.{coarseBeyond, splitFaults}
+use Rattle.coarse.specs.Coarse.{coarseBeyond}
+use Rattle.split.specs.Refusals.{splitFaults}
 use Rattle.split.proofs.splitting.net_refusal.Statement.{statement}
 use Rattle.split.proofs.splitting.net_refusal.Tie as tie
 

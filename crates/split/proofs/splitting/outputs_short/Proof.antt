@@ -5,8 +5,8 @@ use lib.Dec.{ltb}
 use borrow.Author.Tests.{lt-ltb, le-ltb}
 use Rattle.net.specs.Net.{numbers}
 use Rattle.net.proofs.Faults.{or-yes, or-no}
-use Rattle.split.specs.Split.{coarseSide}
-use Rattle.split.proofs.CoarseLaws.{SmallSides, small-sides}
+use Rattle.coarse.specs.Coarse.{coarseSide}
+use Rattle.coarse.proofs.CoarseLaws.{SmallSides, small-sides}
 use Rattle.split.proofs.splitting.outputs_short.Statement.{statement}
 use Rattle.split.proofs.splitting.outputs_short.Tie as tie
 

@@ -8,7 +8,8 @@ use borrow.Author.Needs.{needs}
 use Rattle.exact.specs.Filling.{over}
 use Rattle.net.specs.Refusals.{AcceptedNet}
 use Rattle.net.proofs.Faults.{carried-out, not-carried-out, when-accepted, when-refused}
-use Rattle.split.specs.Split.{coarseSide, coarseNet, detailsAgainst, netDetails}
+use Rattle.coarse.specs.Coarse.{coarseSide, coarseNet}
+use Rattle.split.specs.Split.{detailsAgainst, netDetails}
 use Rattle.split.specs.Answers.{splitRefusalWith}
 use Rattle.split.proofs.SplitLaws.{Splittable, split-accepted, coarse-taken, own-details}
 use Rattle.split.proofs.splitting.split_with.Statement.{statement}

@@ -1,4 +1,4 @@
-// The coarse net: the rule at one vertex, the test of its range, and its storage. `splitting.rt` establishes the
+// The coarse net: the rule at one vertex, the test of its range, and its storage. Splitting establishes the
 // preconditions by its refusals.
 use exact::weighted_mean3;
 use net::STRIDE;
@@ -15,9 +15,7 @@ ghost use Rattle.exact.specs.Filling.{over};
 ghost use Rattle.net.specs.Net.{vertexAt, start, stride, numbers, vertexNumbers};
 ghost use Rattle.net.specs.Refusals.{netLimit, anyBeyond, AcceptedNet};
 ghost use Rattle.details.specs.Details.{PointWithin, ControlsWithin};
-ghost use Rattle.split.specs.Split.{coarseSide, coarseNet, coarseControls};
-ghost use Rattle.split.specs.Refusals.{coarseBeyond};
-ghost use Rattle.split.specs.Rules.{coarsePoint, coarseTriangle};
+ghost use Rattle.coarse.specs.Coarse.{coarseSide, coarseNet, coarseControls, coarseBeyond, coarsePoint, coarseTriangle};
 
 // (5c - a - b)/3, rounded once; of numbers in the net range it fits.
 fn coarse_number(c: i32, a: i32, b: i32) -> i32

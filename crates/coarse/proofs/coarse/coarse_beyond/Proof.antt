@@ -1,4 +1,4 @@
--- `split::coarse::coarse_beyond` meets its contract.
+-- `coarse::coarse::coarse_beyond` meets its contract.
 use mathlib.Core.Path.{_≡_, refl, sym, ap, _∙_}
 use mathlib.Core.Bool.{false}
 use Prim.Native.Nat.{ℕ, _-_, _*_, _≤_}
@@ -7,10 +7,10 @@ use borrow.Author.Needs.{needs}
 use Rattle.exact.specs.Filling.{runs}
 use Rattle.net.specs.Refusals.{netLimit, anyBeyond, controlsBeyond}
 use Rattle.net.proofs.Ranges.{any-more, any-in-runs}
-use Rattle.split.specs.Split.{coarseSide, coarseControls}
-use Rattle.split.proofs.CoarseLaws.{coarseRun, coarse-tested, SmallSides, small-sides, kept-vertex}
-use Rattle.split.proofs.coarse.coarse_beyond.Statement.{statement}
-use Rattle.split.proofs.coarse.coarse_beyond.Tie as tie
+use Rattle.coarse.specs.Coarse.{coarseSide, coarseControls}
+use Rattle.coarse.proofs.CoarseLaws.{coarseRun, coarse-tested, SmallSides, small-sides, kept-vertex}
+use Rattle.coarse.proofs.coarse.coarse_beyond.Statement.{statement}
+use Rattle.coarse.proofs.coarse.coarse_beyond.Tie as tie
 
 abbrev Inv-loop : tie.InvT-loop
 Inv-loop net w h wide count n₀ n = (n ≤ count) × (anyBeyond (runs n (coarseRun net w)) ≡ false)

@@ -1,4 +1,4 @@
--- `split::coarse::coarse_number` meets its contract.
+-- `coarse::coarse::coarse_number` meets its contract.
 use mathlib.Core.List.{[], _∷_}
 use mathlib.Core.Path.{_≡_, sym, ap, subst, _∙_}
 use lib.IntN.{ℤ, pos, negsuc, _+ℤ_, _-ℤ_, _*ℤ_}
@@ -9,9 +9,9 @@ use borrow.Author.Needs.{needs}
 use Rattle.exact.specs.Rounding.{rounded}
 use Rattle.exact.specs.WeightedSum.{weightedSum}
 use Rattle.exact.proofs.SignedCode.{reads-back, reads-as}
-use Rattle.split.proofs.CoarseLaws.{coarse-sum, coarse-fits}
-use Rattle.split.proofs.coarse.coarse_number.Statement.{statement}
-use Rattle.split.proofs.coarse.coarse_number.Tie as tie
+use Rattle.coarse.proofs.CoarseLaws.{coarse-sum, coarse-fits}
+use Rattle.coarse.proofs.coarse.coarse_number.Statement.{statement}
+use Rattle.coarse.proofs.coarse.coarse_number.Tie as tie
 
 weighted-mean3-requires : tie.Need-weighted-mean3-requires
 weighted-mean3-requires c κs = search needs

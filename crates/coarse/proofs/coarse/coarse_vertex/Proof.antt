@@ -1,4 +1,4 @@
--- `split::coarse::coarse_vertex` meets its contract.
+-- `coarse::coarse::coarse_vertex` meets its contract.
 use mathlib.Core.Path.{sym, ap, subst, _∙_}
 use Prim.Native.Nat.{_*_, _≤_}
 use native.Mathlib.Nat.{mul-le-mul, le-refl}
@@ -7,10 +7,9 @@ use Rattle.net.specs.Net.{vertexAt}
 use Rattle.net.specs.Refusals.{netLimit}
 use Rattle.net.proofs.Places.{field-size}
 use Rattle.details.specs.Details.{ControlsWithin}
-use Rattle.split.specs.Split.{coarsened, coarseControls}
-use Rattle.split.specs.Rules.{coarseTriangle}
-use Rattle.split.proofs.coarse.coarse_vertex.Statement.{statement}
-use Rattle.split.proofs.coarse.coarse_vertex.Tie as tie
+use Rattle.coarse.specs.Coarse.{coarsened, coarseControls, coarseTriangle}
+use Rattle.coarse.proofs.coarse.coarse_vertex.Statement.{statement}
+use Rattle.coarse.proofs.coarse.coarse_vertex.Tie as tie
 
 mul-load : tie.Need-mul-load
 mul-load c = search needs

@@ -1,4 +1,4 @@
--- `split::coarse::store_coarse` meets its contract.
+-- `coarse::coarse::store_coarse` meets its contract.
 use mathlib.Core.List.{List}
 use mathlib.Core.Path.{_≡_, refl, sym, ap, _∙_}
 use Prim.Native.Nat.{ℕ, _+_, _-_, _*_, _≤_}
@@ -12,10 +12,10 @@ use Rattle.exact.specs.Filling.{over, runs}
 use Rattle.exact.proofs.FillingLaws.{over-none, over-more}
 use Rattle.net.specs.Net.{stride, vertexOf}
 use Rattle.steps.proofs.RefinedVertices.{stored-triangle}
-use Rattle.split.specs.Split.{coarseSide, coarseFields, coarseControls}
-use Rattle.split.proofs.CoarseLaws.{coarseRun, coarse-by-number, SmallSides, small-sides, kept-vertex}
-use Rattle.split.proofs.coarse.store_coarse.Statement.{statement}
-use Rattle.split.proofs.coarse.store_coarse.Tie as tie
+use Rattle.coarse.specs.Coarse.{coarseSide, coarseFields, coarseControls}
+use Rattle.coarse.proofs.CoarseLaws.{coarseRun, coarse-by-number, SmallSides, small-sides, kept-vertex}
+use Rattle.coarse.proofs.coarse.store_coarse.Statement.{statement}
+use Rattle.coarse.proofs.coarse.store_coarse.Tie as tie
 
 abbrev Inv-loop : tie.InvT-loop
 Inv-loop net w h coarse₀ wide count n₀ coarse n =

@@ -1,8 +1,8 @@
--- `split::coarse::coarse_triangle` meets its contract.
+-- `coarse::coarse::coarse_triangle` meets its contract.
 use borrow.Author.Needs.{needs}
 use Rattle.net.specs.Net.{one, two, three}
-use Rattle.split.proofs.coarse.coarse_triangle.Statement.{statement}
-use Rattle.split.proofs.coarse.coarse_triangle.Tie as tie
+use Rattle.coarse.proofs.coarse.coarse_triangle.Statement.{statement}
+use Rattle.coarse.proofs.coarse.coarse_triangle.Tie as tie
 
 array-copy-out-coarse-point : tie.Need-array-copy-out-coarse-point
 array-copy-out-coarse-point c = search needs

@@ -1,4 +1,4 @@
--- `split::coarse::coarse_point` meets its contract.
+-- `coarse::coarse::coarse_point` meets its contract.
 use mathlib.Core.List.{[], _∷_}
 use mathlib.Core.Path.{_≡_, _∙_}
 use Prim.Native.Nat.{_<_, _^_}
@@ -11,8 +11,8 @@ use borrow.Author.Needs.{needs}
 use Rattle.exact.specs.Rounding.{rounded}
 use Rattle.exact.proofs.SignedCode.{reads-back, reads-as, read-size}
 use Rattle.net.specs.Net.{number}
-use Rattle.split.proofs.coarse.coarse_point.Statement.{statement}
-use Rattle.split.proofs.coarse.coarse_point.Tie as tie
+use Rattle.coarse.proofs.coarse.coarse_point.Statement.{statement}
+use Rattle.coarse.proofs.coarse.coarse_point.Tie as tie
 
 -- what a call of `coarse_number` gave, read back, of numbers that were read
 coarse : (r c a b : ℤ) → mag r < 2 ^ 31 → mag c < 2 ^ 31 → mag a < 2 ^ 31 → mag b < 2 ^ 31 →

@@ -1,5 +1,6 @@
--- The coarse value of three numbers: its sum, its size, and that the detail at a kept vertex is zero.
-use mathlib.Core.Path.{_≡_, refl, _∙_}
+-- The coarse value of three numbers: its sum, its size, and that one refinement of it gives
+-- the value back.
+use mathlib.Core.Path.{_≡_, refl}
 use mathlib.Core.Bool.{false}
 use mathlib.Core.List.{List, [], _∷_}
 use Prim.Native.Nat.{ℕ, _+_, _*_, _/_, _%_, _≤_, _<_}
@@ -8,7 +9,7 @@ use native.Mathlib.Omega.{arith}
 use lib.Dec.{lit<, lit≤}
 use lib.IntN.{ℤ, pos, negsuc, natAbs, _+ℤ_, _-ℤ_, _*ℤ_}
 use lib.ListN.{length}
-use borrow.Author.Tests.{ltb-false, le-ltb}
+use borrow.Author.Tests.{ltb-false}
 use mir.Syntax.{w32}
 use mir.Val.{SFits}
 use Rattle.exact.specs.Rounding.{rounded}
@@ -16,20 +17,17 @@ use Rattle.exact.specs.Filling.{runs}
 use Rattle.exact.specs.WeightedSum.{weightedSum}
 use Rattle.exact.proofs.Expressions.{var, lit, _⊕_, _⊖_, _⊗_, identity}
 use Rattle.exact.proofs.Linear.{expression-parts}
-use Rattle.exact.proofs.Parts.{integers, difference-parts, size-parts}
+use Rattle.exact.proofs.Parts.{integers, size-parts}
 use Rattle.exact.proofs.RoundingLaws.{nearest, rounded-size}
 use Rattle.exact.proofs.Sizes.{value-bound, fits-of-size}
-use Rattle.net.specs.Net.{Index, one, two, three, Field, vertexAt, vertexOf, numbers, start, stride, vertexNumbers}
+use Rattle.net.specs.Net.{vertexAt, vertexOf, numbers, start, stride, vertexNumbers}
 use Rattle.net.specs.Refusals.{netLimit, badSize, anyBeyond, AcceptedNet}
 use Rattle.net.proofs.Grids.{vertex-in-grid}
 use Rattle.net.proofs.Places.{good-size, few-vertices, vertex-ends}
 use Rattle.net.proofs.Ranges.{part-in-range}
-use Rattle.subdivision.specs.Refinement.{isOdd, kindBy, beginBy, endBy, keptControl, ruleBy, exactRefinement, refinement}
 use Rattle.steps.specs.RefinedNet.{vertexRun}
 use Rattle.steps.proofs.StoredNets.{stored-beyond, stored-by-number}
-use Rattle.split.specs.Split.{coarseSide, coarsened, coarseFields, coarseNet, detailOf}
-use Rattle.split.specs.Refusals.{coarseBeyond}
-use Rattle.split.specs.Promises.{KeptDetails}
+use Rattle.coarse.specs.Coarse.{coarseSide, coarseFields, coarseNet, coarseBeyond}
 
 pub coarse-sum : (c a b : ℤ) →
     weightedSum (pos 5 ∷ negsuc 0 ∷ negsuc 0 ∷ []) (c ∷ a ∷ b ∷ []) ≡ pos 5 *ℤ c -ℤ (a +ℤ b)
@@ -94,11 +92,11 @@ kept-vertex net w h n a k =
       part-in-range net w h (start w (vertexAt i j)) stride (a .inRange) ends,
     )
 
--- ---- the detail at a kept vertex
+-- ---- the refined value at a kept vertex
 
 -- from the nearest law of rounding alone: a coarse value times 3 is 5c - a - b with an error of at most 1, so the refined
 -- value, 12 times which is nearest to twice 4g + p + q of the coarse values g, p, q, is the one of the net
-kept-value : (c a b : ℤ) →
+pub kept-value : (c a b : ℤ) →
     (let g = rounded (pos 5 *ℤ c -ℤ (a +ℤ b)) 3 in
     let p = rounded (pos 5 *ℤ a -ℤ (b +ℤ c)) 3 in
     let q = rounded (pos 5 *ℤ b -ℤ (c +ℤ a)) 3 in
@@ -133,29 +131,3 @@ kept-value c a b =
       expression-parts ρ (lit (pos 3) ⊗ var 5 ⊖ (lit (pos 5) ⊗ var 2 ⊖ (var 0 ⊕ var 1))),
       expression-parts ρ (lit (pos 12) ⊗ var 6 ⊖ sum),
     )
-
--- an even column or row, halved
-even-side : (n : ℕ) → (isOdd (2 * n) ≡ false) × (2 * n / 2 ≡ n)
-even-side n = (le-ltb (2 * (2 * n / 2)) (2 * n) (omega arith), omega arith)
-
-kept-refined : (G : Field) (i j : ℕ) (k : Index) →
-    refinement G (vertexAt (2 * i) (2 * j)) k ≡ rounded (keptControl (G (vertexAt i j)) k) 12
-unfolding refinement exactRefinement
-kept-refined G i j k =
-    let e = even-side i in
-    let f = even-side j in
-    λ t.
-    let kind = kindBy (e .0 t) (f .0 t) in
-    rounded (ruleBy kind (G (beginBy kind (e .1 t) (f .1 t))) (G (endBy kind (e .1 t) (f .1 t))) k) 12
-
-no-difference : {a b : ℤ} → b ≡ a → a -ℤ b ≡ pos 0
-no-difference {a} {b} e = omega (integers, difference-parts a b)
-
-pub kept-details : KeptDetails
-unfolding detailOf coarsened
-kept-details F i j k = no-difference (kept-refined (coarsened F) i j k ∙ at k)
-  where
-    at : (k : Index) → rounded (keptControl (coarsened F (vertexAt i j)) k) 12 ≡ F (vertexAt (2 * i) (2 * j)) k
-    at one = kept-value (F (vertexAt (2 * i) (2 * j)) one) (F (vertexAt (2 * i) (2 * j)) two) (F (vertexAt (2 * i) (2 * j)) three)
-    at two = kept-value (F (vertexAt (2 * i) (2 * j)) two) (F (vertexAt (2 * i) (2 * j)) three) (F (vertexAt (2 * i) (2 * j)) one)
-    at three = kept-value (F (vertexAt (2 * i) (2 * j)) three) (F (vertexAt (2 * i) (2 * j)) one) (F (vertexAt (2 * i) (2 * j)) two)

@@ -1,0 +1,2 @@
+-- The laws of the coarse net.
+pub mod CoarseLaws
