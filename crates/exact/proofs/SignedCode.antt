@@ -48,7 +48,13 @@ reads-back w z h = toZ-ofZ {w = w} {z = z} (record { sfits = h })
 pub reads-as : (w : Width) (z : ℤ) {y : ℤ} → mag z < 2 ^ hbits w → z ≡ y → toZ w (ofZ w z) ≡ y
 reads-as w z h e = reads-back w z h ∙ e
 
--- its size
+-- what a call gave of two numbers that were read
+pub reads-both : (w : Width) (f : ℤ → ℤ → ℤ) (r a b : ℤ) → mag r < 2 ^ hbits w → mag a < 2 ^ hbits w →
+    mag b < 2 ^ hbits w → r ≡ f (toZ w (ofZ w a)) (toZ w (ofZ w b)) →
+    toZ w (ofZ w r) ≡ f a b
+reads-both w f r a b g h k e = reads-as w r g (e ∙ (λ t. f (reads-back w a h t) (reads-back w b k t)))
+
+-- the size of a number that was read
 pub read-size : (w : Width) (z : ℤ) {n : ℕ} → mag z < 2 ^ hbits w → natAbs z ≤ n → natAbs (toZ w (ofZ w z)) ≤ n
 read-size w z {n} h k = subst (λ (y : ℤ). natAbs y ≤ n) (sym (reads-back w z h)) k
 

@@ -28,15 +28,15 @@ pub fn odd_refusal(w: usize, h: usize) -> u32
     0
 }
 
-// Whether the output for the coarse net or the one for the details is too short.
-fn outputs_short(w: usize, h: usize, room: usize, places: usize) -> bool
+// Whether the output for the coarse net or the one for the details, of these lengths, is too short.
+fn outputs_short(w: usize, h: usize, coarse: usize, details: usize) -> bool
     requires { ⌜ badSize w h ≡ false ⌝ }
-    ensures { λ r. ⌜ r ≡ outputsShort w h room places ⌝ }
+    ensures { λ r. ⌜ r ≡ outputsShort w h coarse details ⌝ }
 {
-    if room < STRIDE * (((w + 1) / 2) * ((h + 1) / 2)) {
+    if coarse < STRIDE * (((w + 1) / 2) * ((h + 1) / 2)) {
         return true;
     }
-    places < DETAIL_STRIDE * (w * h)
+    details < DETAIL_STRIDE * (w * h)
 }
 
 // The first of 2, 5, 3 and 11, or 0; `short` is whether a lent output is too short.
@@ -59,10 +59,10 @@ fn net_refusal(net: &[i32], w: usize, h: usize, short: bool) -> u32
     0
 }
 
-// The number of the first fault, 1, 10, 2, 5, 3 or 11, or 0 where there is none; `short` is whether another lent output
-// is too short.
-fn split_refusal(net: &[i32], w: usize, h: usize, short: bool, room: usize, places: usize) -> u32
-    ensures { λ r. ⌜ r ≡ splitRefusal (now (net .entry)) w h (short || outputsShort w h room places) ⌝ }
+// The number of the first fault, 1, 10, 2, 5, 3 or 11, or 0 where there is none, of outputs of these
+// lengths; `short` is whether another lent output is too short.
+fn split_refusal(net: &[i32], w: usize, h: usize, short: bool, coarse: usize, details: usize) -> u32
+    ensures { λ r. ⌜ r ≡ splitRefusal (now (net .entry)) w h (short || outputsShort w h coarse details) ⌝ }
 {
     let refusal = odd_refusal(w, h);
     if refusal != 0 {
@@ -71,7 +71,7 @@ fn split_refusal(net: &[i32], w: usize, h: usize, short: bool, room: usize, plac
     if short {
         return net_refusal(net, w, h, true);
     }
-    net_refusal(net, w, h, outputs_short(w, h, room, places))
+    net_refusal(net, w, h, outputs_short(w, h, coarse, details))
 }
 
 // `split` with one more lent output, of the caller's own: `short` is whether it is too short, which counts for 5.

@@ -1,22 +1,13 @@
 -- `merge::sums::sum_point` meets its contract.
 use mathlib.Core.List.{[], _∷_}
-use mathlib.Core.Path.{_≡_, _∙_}
-use Prim.Native.Nat.{_<_, _^_}
 use lib.Dec.{lit<}
-use lib.IntN.{ℤ, _+ℤ_}
-use lib.Signed.{mag}
+use lib.IntN.{_+ℤ_}
 use mir.Syntax.{w32}
-use mir.Val.{toZ, ofZ}
 use borrow.Author.Needs.{needs}
-use Rattle.exact.proofs.SignedCode.{reads-back, reads-as, read-size}
+use Rattle.exact.proofs.SignedCode.{reads-both, read-size}
 use Rattle.net.specs.Net.{number}
 use Rattle.merge.proofs.sums.sum_point.Statement.{statement}
 use Rattle.merge.proofs.sums.sum_point.Tie as tie
-
--- what a call of `sum` gave, read back, of numbers that were read
-added : (r a b : ℤ) → mag r < 2 ^ 31 → mag a < 2 ^ 31 → mag b < 2 ^ 31 →
-    r ≡ toZ w32 (ofZ w32 a) +ℤ toZ w32 (ofZ w32 b) → toZ w32 (ofZ w32 r) ≡ a +ℤ b
-added r a b g h k e = reads-as w32 r g (e ∙ (λ t. reads-back w32 a h t +ℤ reads-back w32 b k t))
 
 array-copy-out-sum : tie.Need-array-copy-out-sum
 array-copy-out-sum c = search needs
@@ -63,11 +54,11 @@ returns c =
     let x = y .before .before .before in
     let s = x .before .before .before in
     λ t.
-    added (x .sum .result) (number (s .args .t1) 0) (number (s .args .t2) 0) (x .sum .ok) (x .before .before .sum-arg .given)
+    reads-both w32 _+ℤ_ (x .sum .result) (number (s .args .t1) 0) (number (s .args .t2) 0) (x .sum .ok) (x .before .before .sum-arg .given)
     (x .before .sum-arg2 .given) (x .sum .ensures) t
-    ∷ added (y .sum2 .result) (number (s .args .t1) 1) (number (s .args .t2) 1) (y .sum2 .ok) (y .before .before .sum-arg3 .given)
+    ∷ reads-both w32 _+ℤ_ (y .sum2 .result) (number (s .args .t1) 1) (number (s .args .t2) 1) (y .sum2 .ok) (y .before .before .sum-arg3 .given)
     (y .before .sum-arg4 .given) (y .sum2 .ensures) t
-    ∷ added (c .sum3 .result) (number (s .args .t1) 2) (number (s .args .t2) 2) (c .sum3 .ok) (c .before .before .sum-arg5 .given)
+    ∷ reads-both w32 _+ℤ_ (c .sum3 .result) (number (s .args .t1) 2) (number (s .args .t2) 2) (c .sum3 .ok) (c .before .before .sum-arg5 .given)
     (c .before .sum-arg6 .given) (c .sum3 .ensures) t
     ∷ []
 

@@ -1,22 +1,13 @@
 -- `split::detail::difference_point` meets its contract.
 use mathlib.Core.List.{[], _∷_}
-use mathlib.Core.Path.{_≡_, _∙_}
-use Prim.Native.Nat.{_<_, _^_}
 use lib.Dec.{lit<}
-use lib.IntN.{ℤ, _-ℤ_}
-use lib.Signed.{mag}
+use lib.IntN.{_-ℤ_}
 use mir.Syntax.{w32}
-use mir.Val.{toZ, ofZ}
 use borrow.Author.Needs.{needs}
-use Rattle.exact.proofs.SignedCode.{reads-back, reads-as, read-size}
+use Rattle.exact.proofs.SignedCode.{reads-both, read-size}
 use Rattle.net.specs.Net.{number}
 use Rattle.split.proofs.detail.difference_point.Statement.{statement}
 use Rattle.split.proofs.detail.difference_point.Tie as tie
-
--- what a call of `difference` gave, read back, of numbers that were read
-exact : (r a b : ℤ) → mag r < 2 ^ 31 → mag a < 2 ^ 31 → mag b < 2 ^ 31 →
-    r ≡ toZ w32 (ofZ w32 a) -ℤ toZ w32 (ofZ w32 b) → toZ w32 (ofZ w32 r) ≡ a -ℤ b
-exact r a b g h k e = reads-as w32 r g (e ∙ (λ t. reads-back w32 a h t -ℤ reads-back w32 b k t))
 
 array-copy-out-difference : tie.Need-array-copy-out-difference
 array-copy-out-difference c = search needs
@@ -63,11 +54,11 @@ returns c =
     let x = y .before .before .before in
     let s = x .before .before .before in
     λ t.
-    exact (x .difference .result) (number (s .args .t1) 0) (number (s .args .t2) 0) (x .difference .ok)
+    reads-both w32 _-ℤ_ (x .difference .result) (number (s .args .t1) 0) (number (s .args .t2) 0) (x .difference .ok)
     (x .before .before .difference-arg .given) (x .before .difference-arg2 .given) (x .difference .ensures) t
-    ∷ exact (y .difference2 .result) (number (s .args .t1) 1) (number (s .args .t2) 1) (y .difference2 .ok)
+    ∷ reads-both w32 _-ℤ_ (y .difference2 .result) (number (s .args .t1) 1) (number (s .args .t2) 1) (y .difference2 .ok)
     (y .before .before .difference-arg3 .given) (y .before .difference-arg4 .given) (y .difference2 .ensures) t
-    ∷ exact (c .difference3 .result) (number (s .args .t1) 2) (number (s .args .t2) 2) (c .difference3 .ok)
+    ∷ reads-both w32 _-ℤ_ (c .difference3 .result) (number (s .args .t1) 2) (number (s .args .t2) 2) (c .difference3 .ok)
     (c .before .before .difference-arg5 .given) (c .before .difference-arg6 .given) (c .difference3 .ensures) t
     ∷ []
 

@@ -28,7 +28,7 @@ mul-if1-2 c = omega (arith, small c .few)
 returns : tie.Need-returns
 returns c =
     let a = c .before .args in
-    or-yes (ltb (a .room) (numbers (coarseSide (a .w)) (coarseSide (a .h)))) _ (lt-ltb _ _ (c .if1 .taken))
+    or-yes (ltb (a .coarse) (numbers (coarseSide (a .w)) (coarseSide (a .h)))) _ (lt-ltb _ _ (c .if1 .taken))
 
 mul-result : tie.Need-mul-result
 mul-result c = omega (arith, small (c .before) .many)
@@ -39,7 +39,7 @@ mul-result-2 c = omega (arith, small (c .before) .many)
 returns-2 : tie.Need-returns-2
 returns-2 c =
     let a = c .before .args in
-    or-no (ltb (a .room) (numbers (coarseSide (a .w)) (coarseSide (a .h)))) _ (le-ltb _ _ (c .if1 .left)) refl
+    or-no (ltb (a .coarse) (numbers (coarseSide (a .w)) (coarseSide (a .h)))) _ (le-ltb _ _ (c .if1 .left)) refl
 
 pub outputs-short-spec : {M : Type 1} → statement M
 outputs-short-spec =

@@ -12,7 +12,7 @@ use Rattle.split.proofs.splitting.split_refusal.Tie as tie
 
 -- 5, and the faults after 1 and 10
 abbrev short : tie.Start → Bool
-short s = s .args .short || outputsShort (s .args .w) (s .args .h) (s .args .room) (s .args .places)
+short s = s .args .short || outputsShort (s .args .w) (s .args .h) (s .args .coarse) (s .args .details)
 
 abbrev rest : tie.Start → Bool → List Fault
 rest s = splitFaults (s .args .net .now) (s .args .w) (s .args .h)
