@@ -1,9 +1,10 @@
 -- Document 01, "Split, merge, clean": what cleaning answers and makes of lent details.
-use mathlib.Core.Path.{_≡_, refl}
+use mathlib.Core.Path.{_≡_, refl, ap}
 use mathlib.Core.Bool.{Bool, true, false, cond}
 use mathlib.Core.List.{List, [], _∷_, _++_, map}
-use mathlib.Core.Logic.{_⊎_}
+use mathlib.Core.Logic.{_⊎_, ⊎-elim}
 use Prim.Native.Nat.{ℕ, _<_}
+use native.Mathlib.Omega.{arith}
 use lib.Dec.{ltb}
 use lib.IntN.{ℤ, pos, negsuc, natAbs}
 use lib.ListN.{length, take, replicate}
@@ -68,3 +69,14 @@ answers = (refl, refl)
 outputs : (cleanOutput few 3 3 7 ≡ fewer) × (cleanOutput few 3 5 7 ≡ few)
 unfolding detailsBeyond cleanedDetails over
 outputs = (refl, refl)
+
+-- what is not cleaning below 7: a detail of size 7 that is zeroed, one that is changed to another number, and a slice that
+-- is shorter afterwards
+not-seven : Cleaned 7 (pos 7 ∷ []) (pos 0 ∷ []) → ⊥
+not-seven k = ⊎-elim (λ e. omega (arith, ap natAbs e)) (λ e. omega (arith, e .1)) (k .each 0)
+
+not-changed : Cleaned 7 (pos 5 ∷ []) (pos 6 ∷ []) → ⊥
+not-changed k = ⊎-elim (λ e. omega (arith, ap natAbs e)) (λ e. omega (arith, ap natAbs (e .0))) (k .each 0)
+
+not-shorter : Cleaned 7 (pos 0 ∷ []) [] → ⊥
+not-shorter k = omega (arith, k .long)

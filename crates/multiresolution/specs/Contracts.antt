@@ -61,7 +61,7 @@ pub record CleanedNet (net : List ℤ) (w h t : ℕ) (coarse details out : List 
 -- ---- worked cases
 
 -- nets of 3 by 3: of zeros, and one number too few, each beyond the range; outputs that are too short, and long enough
-abbrev flat : List ℤ
+abbrev pub flat : List ℤ
 flat = replicate (numbers 3 3) (pos 0)
 
 abbrev short : List ℤ
