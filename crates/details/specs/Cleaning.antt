@@ -70,8 +70,8 @@ outputs : (cleanOutput few 3 3 7 ≡ fewer) × (cleanOutput few 3 5 7 ≡ few)
 unfolding detailsBeyond cleanedDetails over
 outputs = (refl, refl)
 
--- what is not cleaning below 7: a detail of size 7 that is zeroed, one that is changed to another number, and a slice that
--- is shorter afterwards
+-- what is not cleaning below 7: a detail of size 7 that is zeroed, one that is changed to another number, and a slice
+-- that is shorter afterwards
 not-seven : Cleaned 7 (pos 7 ∷ []) (pos 0 ∷ []) → ⊥
 not-seven k = ⊎-elim (λ e. omega (arith, ap natAbs e)) (λ e. omega (arith, e .1)) (k .each 0)
 

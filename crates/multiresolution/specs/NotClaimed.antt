@@ -25,8 +25,8 @@ moved-by-seven : MovedBelow 7 nine (set nine 8 (pos 7)) 1 1 → ⊥
 unfolding controlTriangle controlPoint
 moved-by-seven m = omega (arith, m 0 0 (lit< tt) (lit< tt) three 2 (lit< tt))
 
--- the net of 3 by 3 zeros, whose round trip is accepted: not with a refusal for an answer, and not with other numbers in
--- the output
+-- the net of 3 by 3 zeros, whose round trip is accepted: not with a refusal for an answer, and not with other numbers
+-- in the output
 abbrev room : List ℤ
 room = replicate 36 (pos 0)
 
