@@ -193,9 +193,6 @@ cleans details w h t = by (accepted (cleanRefusal details w h t))
     by true = first-cleaned t details (detailNumbers w h)
     by false = record { long = refl; each = λ n. inl refl }
 
-pub cleaned-length : (details : List ℤ) (w h t : ℕ) → length (cleanOutput details w h t) ≡ length details
-cleaned-length details w h t = cleans details w h t .long
-
 pub cleaned-in-range : (before after : List ℤ) (w h t : ℕ) → Cleaned t before after →
     detailNumbers w h ≤ length before → detailsBeyond before w h ≡ false → detailsBeyond after w h ≡ false
 cleaned-in-range before after w h t c long e =

@@ -159,7 +159,7 @@ module _ (net : List ℤ) (w h : ℕ) (coarse details out : List ℤ) where
         }
 
     -- refused: nothing has changed
-    pub nothing-cleaned : {n : ℕ} → n ≡ refused → (n ≡ 0 → ⊥) →
+    nothing-cleaned : {n : ℕ} → n ≡ refused → (n ≡ 0 → ⊥) →
         CleanedNet net w h t coarse details out (merge-answer.Refused n) coarse details out
     nothing-cleaned e there =
         let r : refused ≡ 0 → ⊥ = λ z. there (e ∙ z) in

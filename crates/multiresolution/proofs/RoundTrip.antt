@@ -79,7 +79,7 @@ module _ (net : List ℤ) (w h : ℕ) (coarse details : List ℤ) (s : Splittabl
       details-field (λ y. detailOf (field net w y) (coarseFields net w y)) w h details i j p q l x a
       ∙ ap (λ (z : ℤ). field net w x (vertexAt i j) l -ℤ z) (coarse-refined net w h coarse s x a i j p q l)
 
-  pub details-long : detailNumbers w h ≤ length d
+  details-long : detailNumbers w h ≤ length d
   unfolding netDetails
   details-long =
       let size = details-length (λ y. detailOf (field net w y) (coarseFields net w y)) w h in

@@ -93,7 +93,7 @@ point-fine F v f l =
     let fine : (x : ℕ) → x < 3 → beyond (F x v l) ≡ false = λ x c. le-ltb 16777216 (natAbs (F x v l)) (f x c l) in
     sym (or-no _ _ (fine 0 (lit< tt)) (or-no _ _ (fine 1 (lit< tt)) (or-no _ _ (fine 2 (lit< tt)) refl)))
 
-pub vertex-fine : (F : Fields) (v : Vertex) → Fine F v → anyBeyond (vertexRun F v) ≡ false
+vertex-fine : (F : Fields) (v : Vertex) → Fine F v → anyBeyond (vertexRun F v) ≡ false
 vertex-fine F v f =
     any-append netLimit (pointAt F v one ++ pointAt F v two) (pointAt F v three)
     ∙ sym (or-no _ _ (any-append netLimit (pointAt F v one) (pointAt F v two)
