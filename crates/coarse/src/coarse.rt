@@ -57,7 +57,7 @@ fn coarse_vertex(net: &[i32], w: usize, i: usize, j: usize) -> [[i32; 3]; 3]
     coarse_triangle(c)
 }
 
-// Whether a number of the coarse net is outside the net range.
+// Whether a number of the coarse net is outside the net range. For splitting, which has refused every other net.
 pub fn coarse_beyond(net: &[i32], w: usize, h: usize) -> bool
     requires { ⌜ AcceptedNet (now net) w h ⌝ }
     ensures { λ r. ⌜ r ≡ coarseBeyond (now (net .entry)) w h ⌝ }
@@ -75,7 +75,7 @@ pub fn coarse_beyond(net: &[i32], w: usize, h: usize) -> bool
     false
 }
 
-// The coarse net over the front of `coarse`.
+// The coarse net over the front of `coarse`. For splitting, which has refused every other net and shorter outputs.
 pub fn store_coarse(net: &[i32], w: usize, h: usize, coarse: &mut [i32])
     requires { ⌜ AcceptedNet (now net) w h × (numbers (coarseSide w) (coarseSide h) ≤ length (now coarse)) ⌝ }
     ensures { λ r. ⌜ now (coarse .exit) ≡ over (coarseNet (now (net .entry)) w h) (now (coarse .entry)) ⌝ }

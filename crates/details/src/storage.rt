@@ -21,7 +21,7 @@ pub fn load_details(details: &[i32], w: usize, i: usize, j: usize) -> [[i32; 3];
     [d1, d2, d3]
 }
 
-// The details of a vertex, stored from a place on.
+// The details of a vertex, stored from a place on. For splitting, which has refused outputs that are too short.
 pub fn store_details(d: [[i32; 3]; 3], at: usize, details: &mut [i32])
     requires { ⌜ at + detailStride ≤ length (now details) ⌝ }
     ensures { λ r. ⌜ now (details .exit) ≡ detailPoints (now (details .entry)) at d ⌝ }

@@ -50,7 +50,7 @@ fn sums_of(a: [[i32; 3]; 3], b: [[i32; 3]; 3]) -> [[i32; 3]; 3]
 }
 
 // Whether a number of the merged net is outside the net range. Nothing is written yet, so each refined control triangle
-// is worked out here and dropped.
+// is worked out here and dropped. For the refusals of merging, which have found 1, 4, 2 and 3 before.
 pub fn merged_beyond(coarse: &[i32], details: &[i32], w: usize, h: usize) -> bool
     requires { ⌜ Mergeable (now coarse) (now details) w h ⌝ }
     ensures { λ r. ⌜ r ≡ mergedBeyond (now (coarse .entry)) (now (details .entry)) w h ⌝ }
@@ -71,7 +71,8 @@ pub fn merged_beyond(coarse: &[i32], details: &[i32], w: usize, h: usize) -> boo
     false
 }
 
-// Details of width w and height h, added to the net at the front of `out`.
+// Details of width w and height h, added to the net at the front of `out`. For `merge`, which has laid the refined net
+// there.
 pub fn add_details(details: &[i32], w: usize, h: usize, out: &mut [i32])
     requires { ⌜ AcceptedNet (now out) w h × (detailNumbers w h ≤ length (now details))
         × (detailsBeyond (now details) w h ≡ false) ⌝ }

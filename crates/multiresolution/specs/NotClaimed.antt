@@ -1,5 +1,5 @@
 -- What the contracts do not allow: so nothing weaker goes by their names.
-use mathlib.Core.Path.{_≡_, ap}
+use mathlib.Core.Path.{_≡_, refl, ap}
 use mathlib.Core.Bool.{Bool}
 use mathlib.Core.List.{List, [], _∷_}
 use Prim.Native.Nat.{ℕ}
@@ -15,7 +15,7 @@ use Rattle.steps.specs.RefinedNet.{stored}
 use Rattle.coarse.specs.Coarse.{coarsened, coarseNet}
 use Rattle.merge.specs.declared.answers.MergeAnswer.the-variants as answer
 use Rattle.multiresolution.specs.Promises.{MovedBelow}
-use Rattle.multiresolution.specs.Contracts.{flat, RoundTrip}
+use Rattle.multiresolution.specs.Contracts.{flat, RoundTrip, CleanedNet}
 
 -- a net of one vertex whose last number, z of c3, is moved by 7 has not moved below 7
 abbrev nine : List ℤ
@@ -37,3 +37,8 @@ not-refused k = omega (arith, ap (λ (a : ℕ × Bool). a .0) (k .answer))
 not-otherwise : RoundTrip flat 3 3 room flat flat answer.Done room flat (set flat 80 (pos 1)) → ⊥
 unfolding over netBeyond coarseNet coarsened stored grid runs rounded floorQuotient controlTriangle controlPoint
 not-otherwise k = omega (arith, ap (λ (l : List ℤ). natAbs (number l 80)) (k .outAfter))
+
+-- cleaned below 7, the last number of that net does not come back as 7
+not-moved : CleanedNet flat 3 3 7 room flat flat answer.Done room flat (set flat 80 (pos 7)) → ⊥
+unfolding netBeyond coarseNet coarsened stored grid runs rounded floorQuotient controlTriangle controlPoint
+not-moved k = omega (arith, k .moved refl (lit< tt) 2 2 (lit< tt) (lit< tt) three 2 (lit< tt))

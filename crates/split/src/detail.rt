@@ -46,7 +46,8 @@ fn differences_of(a: [[i32; 3]; 3], b: [[i32; 3]; 3]) -> [[i32; 3]; 3]
     [d1, d2, d3]
 }
 
-// The details of the net against one refinement of the coarse net over the front of `details`.
+// The details of the net against one refinement of the coarse net over the front of `details`. For `split_with`, which
+// has refused every other net and shorter outputs, and has stored the coarse net.
 pub fn store_differences(net: &[i32], w: usize, h: usize, coarse: &[i32], details: &mut [i32])
     requires { ⌜ AcceptedNet (now net) w h × (evenSize w h ≡ false)
         × AcceptedNet (now coarse) (coarseSide w) (coarseSide h) × (detailNumbers w h ≤ length (now details)) ⌝ }
