@@ -97,8 +97,9 @@ module _ (net : List ℤ) (w h k : ℕ) (out : List ℤ) {scratchLength : ℕ} (
         ∷ refinedCoordinate (field net w 2) w h k p q ∷ []
 
     pub point-answered : (0, coordinates) ≡ pointAnswer left wide high p q
+    unfolding pointAnswer
     point-answered =
-        accepted-point left wide high p q (sym (point-not-refused left wide high left-accepted p q place))
+        accepted-point left wide high p q false (sym (point-not-refused left wide high left-accepted p q place))
         (sym (refined-coordinate 0 (lit< tt))) (sym (refined-coordinate 1 (lit< tt)))
         (sym (refined-coordinate 2 (lit< tt)))
 

@@ -11,7 +11,7 @@ use Rattle.exact.specs.Rounding.{rounded}
 use Rattle.exact.specs.WeightedSum.{weightedSum, Within}
 use Rattle.net.specs.Refusals.{badSize, shortNet, accepted}
 use Rattle.net.specs.Net.{Index, one, two, three, field}
-use Rattle.net.proofs.Faults.{when-accepted, when-refused, cond-false, fault-none, fault-before}
+use Rattle.net.proofs.Faults.{cond-false, fault-none, fault-before, accepted-answer, refused-answer}
 use Rattle.places.specs.Places.{cell, Order, o123, o132, o213, o231, o312, o321, cornerP, cornerQ, cornerT, orderOf, chosen, share, gapA, gapB, gapG, isDown, rest, upShare, downShare}
 use Rattle.places.specs.Refusals.{noPlace}
 use Rattle.places.specs.Located.{placeRefusal, shares, InOrder}
@@ -26,8 +26,8 @@ use Rattle.spline.specs.Spline.{spline}
 use Rattle.spline.specs.Parts.{parts}
 use Rattle.spline.proofs.Parts.{parts-value}
 use Rattle.surface.specs.SurfacePoint.{coordinate, surfacePoint}
-use Rattle.surface.specs.Refusals.{pointRefusal}
-use Rattle.surface.specs.Answers.{pointAnswer, viewAnswer, viewPoint, millimetres}
+use Rattle.surface.specs.Refusals.{pointRefusalWith}
+use Rattle.surface.specs.Answers.{pointAnswerWith, viewAnswerWith, viewPoint, millimetres}
 use Rattle.surface.specs.Evaluation.{evaluated, Evaluable}
 
 pub in-net-place : (net : List ℤ) (w h p q : ℕ) → badSize w h ≡ false → noPlace 1024 w h p q ≡ false →
@@ -85,30 +85,25 @@ evaluated-coordinate net w h p q x ek ec i =
 
 -- ---- answers
 
-pub refused-point : (net : List ℤ) (w h p q : ℕ) {n : ℕ} → n ≡ pointRefusal net w h p q → (n ≡ 0 → ⊥) →
-    (n, []) ≡ pointAnswer net w h p q
-unfolding pointAnswer
-refused-point net w h p q e k =
-    λ t. (e t, when-refused (pointRefusal net w h p q) (surfacePoint net w h p q) [] (λ z. k (e ∙ z)) t)
+module _ (net : List ℤ) (w h p q : ℕ) (short : Bool) where
+  pub refused-point : {n : ℕ} → n ≡ pointRefusalWith net w h p q short → (n ≡ 0 → ⊥) →
+      (n, []) ≡ pointAnswerWith net w h p q short
+  refused-point = refused-answer (pointRefusalWith net w h p q short) (surfacePoint net w h p q)
 
-pub accepted-point : (net : List ℤ) (w h p q : ℕ) → 0 ≡ pointRefusal net w h p q → {x y z : ℤ} →
-    x ≡ coordinate net w h p q 0 → y ≡ coordinate net w h p q 1 → z ≡ coordinate net w h p q 2 →
-    (0, x ∷ y ∷ z ∷ []) ≡ pointAnswer net w h p q
-unfolding pointAnswer
-accepted-point net w h p q e ex ey ez =
-    λ t. (
-      e t,
-      ((λ k. ex k ∷ ey k ∷ ez k ∷ [])
-          ∙ when-accepted (pointRefusal net w h p q) (surfacePoint net w h p q) [] (sym e)) t,
-    )
+  pub accepted-point : 0 ≡ pointRefusalWith net w h p q short → {x y z : ℤ} →
+      x ≡ coordinate net w h p q 0 → y ≡ coordinate net w h p q 1 → z ≡ coordinate net w h p q 2 →
+      (0, x ∷ y ∷ z ∷ []) ≡ pointAnswerWith net w h p q short
+  accepted-point e ex ey ez =
+      accepted-answer (pointRefusalWith net w h p q short) (surfacePoint net w h p q) (sym e)
+      (λ k. ex k ∷ ey k ∷ ez k ∷ [])
 
 -- the viewer's answer is the surface point's, coordinate by coordinate
-pub viewed : (net : List ℤ) (w h p q : ℕ) {outcome : ℕ × List ℤ} → outcome ≡ pointAnswer net w h p q →
-    (outcome .0, map millimetres (outcome .1)) ≡ viewAnswer net w h p q
-unfolding pointAnswer viewAnswer
-viewed net w h p q e =
+pub viewed : (net : List ℤ) (w h p q : ℕ) (short : Bool) {outcome : ℕ × List ℤ} →
+    outcome ≡ pointAnswerWith net w h p q short →
+    (outcome .0, map millimetres (outcome .1)) ≡ viewAnswerWith net w h p q short
+viewed net w h p q short e =
     (λ t. (e t .0, map millimetres (e t .1)))
-    ∙ (λ t. (pointRefusal net w h p q, at (accepted (pointRefusal net w h p q)) t))
+    ∙ (λ t. (pointRefusalWith net w h p q short, at (accepted (pointRefusalWith net w h p q short)) t))
   where
     at : (b : Bool) → map millimetres (cond b (surfacePoint net w h p q) []) ≡ cond b (viewPoint net w h p q) []
     at true = refl
@@ -127,19 +122,32 @@ good-place net w h p q e =
     let e₂ = fault-none (shortNet net w h) 2 _ (lit< tt) (e₆ .1) in
     record { size = e₁ .0; place = e₆ .0; long = e₂ .0 }
 
--- a place that 1, 6 or 2 refuses, and one that only 3 can refuse
-pub refused-place : (net : List ℤ) (w h p q : ℕ) → (placeRefusal net w h p q ≡ 0 → ⊥) →
-    placeRefusal net w h p q ≡ pointRefusal net w h p q
-refused-place net w h p q k =
+-- a place that 1, 6 or 2 refuses, one that only 5 or 3 can refuse, and one that only 3 can
+pub refused-place : (net : List ℤ) (w h p q : ℕ) (short : Bool) → (placeRefusal net w h p q ≡ 0 → ⊥) →
+    placeRefusal net w h p q ≡ pointRefusalWith net w h p q short
+refused-place net w h p q short k =
     fault-before
     ((badSize w h, 1) ∷ (noPlace 1024 w h p q, 6) ∷ (shortNet net w h, 2) ∷ [])
-    ((triangleBeyond net w (chosen 1024 w h p q), 3) ∷ [])
+    ((short, 5) ∷ (triangleBeyond net w (chosen 1024 w h p q), 3) ∷ [])
     k
 
-pub range-refusal : (net : List ℤ) (w h p q : ℕ) → GoodPlace net w h p q → {n : ℕ} →
-    n ≡ cond (triangleBeyond net w (chosen 1024 w h p q)) 3 0 → n ≡ pointRefusal net w h p q
-range-refusal net w h p q g e =
+pub room-refusal : (net : List ℤ) (w h p q : ℕ) (short : Bool) → GoodPlace net w h p q → {n : ℕ} →
+    n ≡ cond short 5 (cond (triangleBeyond net w (chosen 1024 w h p q)) 3 0) →
+    n ≡ pointRefusalWith net w h p q short
+room-refusal net w h p q short g {n} e =
     cond-false _ 1 _ (g .size) (cond-false _ 6 _ (g .place) (cond-false _ 2 _ (g .long) e))
+
+pub range-refusal : (net : List ℤ) (w h p q : ℕ) (short : Bool) → GoodPlace net w h p q → short ≡ false → {n : ℕ} →
+    n ≡ cond (triangleBeyond net w (chosen 1024 w h p q)) 3 0 → n ≡ pointRefusalWith net w h p q short
+range-refusal net w h p q short g e₅ {n} e = room-refusal net w h p q short g (cond-false short 5 _ e₅ e)
+
+-- where nothing is refused, the output is long enough
+pub point-fits : (net : List ℤ) (w h p q : ℕ) (short : Bool) → pointRefusalWith net w h p q short ≡ 0 → short ≡ false
+point-fits net w h p q short e =
+    let e₁ = fault-none (badSize w h) 1 _ (lit< tt) e in
+    let e₆ = fault-none (noPlace 1024 w h p q) 6 _ (lit< tt) (e₁ .1) in
+    let e₂ = fault-none (shortNet net w h) 2 _ (lit< tt) (e₆ .1) in
+    fault-none short 5 _ (lit< tt) (e₂ .1) .0
 
 -- ---- the precondition of the evaluation
 

@@ -1,6 +1,6 @@
 -- Document 01's number and values for each case of each answer, and what the calls answer and leave in lent memory.
 use mathlib.Core.Path.{_≡_, refl}
-use mathlib.Core.Bool.{true, false, cond}
+use mathlib.Core.Bool.{Bool, true, false, cond}
 use mathlib.Core.List.{List, [], _∷_, map}
 use Prim.Native.Nat.{ℕ}
 use lib.IntN.{ℤ, pos, negsuc}
@@ -11,7 +11,7 @@ use Rattle.net.specs.Net.{numbers, controlPoint, controlTriangle}
 use Rattle.net.specs.Refusals.{accepted}
 use Rattle.spline.specs.Spline.{spline}
 use Rattle.surface.specs.SurfacePoint.{coordinate, surfacePoint}
-use Rattle.surface.specs.Refusals.{pointRefusal}
+use Rattle.surface.specs.Refusals.{pointRefusalWith}
 use Rattle.surface.specs.declared.answers.PointAnswer.{PointAnswer}
 use Rattle.surface.specs.declared.answers.PointAnswer.the-variants as point
 use Rattle.surface.specs.declared.answers.ViewAnswer.{ViewAnswer}
@@ -26,10 +26,16 @@ abbrev pub viewOutcome : ViewAnswer → ℕ × List Float
 viewOutcome (view.At p) = (0, p .x ∷ p .y ∷ p .z ∷ [])
 viewOutcome (view.Refused n) = (n, [])
 
--- what a surface point answers
+-- what a surface point answers, where `short` is whether an output lent for it is too short
+abbrev pub pointAnswerWith : List ℤ → ℕ → ℕ → ℕ → ℕ → Bool → ℕ × List ℤ
+pointAnswerWith net w h p q short = (
+  pointRefusalWith net w h p q short,
+  cond (accepted (pointRefusalWith net w h p q short)) (surfacePoint net w h p q) [],
+)
+
+-- where no output is lent
 unfoldable pub pointAnswer : List ℤ → ℕ → ℕ → ℕ → ℕ → ℕ × List ℤ
-pointAnswer net w h p q =
-    (pointRefusal net w h p q, cond (accepted (pointRefusal net w h p q)) (surfacePoint net w h p q) [])
+pointAnswer net w h p q = pointAnswerWith net w h p q false
 
 -- 'each coordinate is converted and divided by 1024, one operation each': to the double of the whole number, over the
 -- double 1024
@@ -40,13 +46,18 @@ millimetres z = div binary64 (ofInt binary64 z) (ofInt binary64 (pos 1024))
 abbrev pub viewPoint : List ℤ → ℕ → ℕ → ℕ → ℕ → List Float
 viewPoint net w h p q = map millimetres (surfacePoint net w h p q)
 
--- what a viewer's point answers
+-- what a viewer's point answers, with and without an output
+abbrev pub viewAnswerWith : List ℤ → ℕ → ℕ → ℕ → ℕ → Bool → ℕ × List Float
+viewAnswerWith net w h p q short = (
+  pointRefusalWith net w h p q short,
+  cond (accepted (pointRefusalWith net w h p q short)) (viewPoint net w h p q) [],
+)
+
 unfoldable pub viewAnswer : List ℤ → ℕ → ℕ → ℕ → ℕ → ℕ × List Float
-viewAnswer net w h p q =
-    (pointRefusal net w h p q, cond (accepted (pointRefusal net w h p q)) (viewPoint net w h p q) [])
+viewAnswer net w h p q = viewAnswerWith net w h p q false
 
 -- worked cases: 1,536 units are 1.5 mm, and -1 is -2 to the power -10 mm; outcomes of answers; of a net of 5s, an
--- accepted place and a refused one
+-- accepted place, a refused one and an output that is too short
 millimetres-of : (millimetres (pos 1536) ≡ fin false 3 (negsuc 0)) × (millimetres (negsuc 0) ≡ fin true 1 (negsuc 9))
 unfolding div ofInt
 millimetres-of = (refl, refl)
@@ -70,5 +81,7 @@ answers :
     × (pointAnswer fives 2 2 1025 0 ≡ (6, []))
     × (viewAnswer fives 2 2 1024 0 ≡ (0, map millimetres (pos 5 ∷ pos 5 ∷ pos 5 ∷ [])))
     × (viewAnswer fives 2 2 1025 0 ≡ (6, []))
+    × (pointAnswerWith fives 2 2 1024 0 true ≡ (5, []))
+    × (viewAnswerWith fives 2 2 1024 0 true ≡ (5, []))
 unfolding pointAnswer viewAnswer coordinate spline rounded floorQuotient controlTriangle controlPoint
-answers = (refl, refl, refl, refl)
+answers = (refl, refl, refl, refl, refl, refl)

@@ -21,7 +21,7 @@ ghost use Rattle.exact.specs.WeightedSum.{Within, weightedSum};
 ghost use Rattle.exact.specs.Rounding.{rounded};
 ghost use Rattle.spline.specs.Parts.{coefficients, partRows, parts};
 ghost use Rattle.surface.specs.Evaluation.{evaluated, Evaluable};
-ghost use Rattle.surface.specs.Answers.{pointOutcome, viewOutcome, pointAnswer, viewAnswer, millimetres};
+ghost use Rattle.surface.specs.Answers.{pointOutcome, viewOutcome, pointAnswer, pointAnswerWith, viewAnswer, viewAnswerWith, millimetres};
 
 // A², 2AB, 2AG, B², 2BG, G².
 fn squares(a: usize, b: usize, g: usize) -> [i32; 6]
@@ -105,13 +105,24 @@ fn evaluate(ahead: bool, a: usize, b: usize, g: usize, c: [[[i32; 3]; 3]; 3]) ->
     Point { x, y, z }
 }
 
-// The surface point at place (p, q), counted in 1,024ths of an edge.
-pub fn surface_point(net: &[i32], w: usize, h: usize, p: usize, q: usize) -> PointAnswer
-    ensures { λ r. ⌜ pointOutcome r ≡ pointAnswer (now (net .entry)) w h p q ⌝ }
+// The same as `surface_point`, for the crates above: `short` is whether an output that they were lent for the point is
+// too short, which is 5.
+pub fn surface_point_with(
+    net: &[i32],
+    w: usize,
+    h: usize,
+    p: usize,
+    q: usize,
+    short: bool,
+) -> PointAnswer
+    ensures { λ r. ⌜ pointOutcome r ≡ pointAnswerWith (now (net .entry)) w h p q short ⌝ }
 {
     let refusal = place_refusal(net, w, h, p, q);
     if refusal != 0 {
         return PointAnswer::Refused(refusal);
+    }
+    if short {
+        return PointAnswer::Refused(5);
     }
     let at = locate(w, h, p, q);
     let i = at.i;
@@ -126,6 +137,13 @@ pub fn surface_point(net: &[i32], w: usize, h: usize, p: usize, q: usize) -> Poi
     PointAnswer::At(evaluate(o.ahead, o.a, o.b, o.g, t))
 }
 
+// The surface point at place (p, q), counted in 1,024ths of an edge.
+pub fn surface_point(net: &[i32], w: usize, h: usize, p: usize, q: usize) -> PointAnswer
+    ensures { λ r. ⌜ pointOutcome r ≡ pointAnswer (now (net .entry)) w h p q ⌝ }
+{
+    surface_point_with(net, w, h, p, q, false)
+}
+
 // A whole number of net units in millimetres: converted, then divided by 1,024.
 fn millimetres_of(z: i32) -> f64
     ensures { λ r. ⌜ r ≡ millimetres z ⌝ }
@@ -133,11 +151,18 @@ fn millimetres_of(z: i32) -> f64
     z as f64 / 1024.0
 }
 
-// The surface point in millimetres, for the viewer.
-pub fn view_point(net: &[i32], w: usize, h: usize, p: usize, q: usize) -> ViewAnswer
-    ensures { λ r. ⌜ viewOutcome r ≡ viewAnswer (now (net .entry)) w h p q ⌝ }
+// The same as `view_point`, for the crates above, with `short` as in `surface_point_with`.
+pub fn view_point_with(
+    net: &[i32],
+    w: usize,
+    h: usize,
+    p: usize,
+    q: usize,
+    short: bool,
+) -> ViewAnswer
+    ensures { λ r. ⌜ viewOutcome r ≡ viewAnswerWith (now (net .entry)) w h p q short ⌝ }
 {
-    let answer = surface_point(net, w, h, p, q);
+    let answer = surface_point_with(net, w, h, p, q, short);
     match answer {
         PointAnswer::At(point) => ViewAnswer::At(ViewPoint {
             x: millimetres_of(point.x),
@@ -146,4 +171,11 @@ pub fn view_point(net: &[i32], w: usize, h: usize, p: usize, q: usize) -> ViewAn
         }),
         PointAnswer::Refused(n) => ViewAnswer::Refused(n),
     }
+}
+
+// The surface point in millimetres, for the viewer.
+pub fn view_point(net: &[i32], w: usize, h: usize, p: usize, q: usize) -> ViewAnswer
+    ensures { λ r. ⌜ viewOutcome r ≡ viewAnswer (now (net .entry)) w h p q ⌝ }
+{
+    view_point_with(net, w, h, p, q, false)
 }

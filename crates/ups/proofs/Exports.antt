@@ -1,28 +1,28 @@
 -- From the calls' answers to the exported numbers and outputs.
 use mathlib.Core.Path.{_≡_, refl, sym, ap, subst, _∙_}
 use mathlib.Core.Bool.{Bool, true, false, cond, _||_}
-use mathlib.Core.List.{List, []}
-use Prim.Native.Nat.{ℕ, _≤_, _<_}
-use native.Mathlib.Omega.{arith}
+use mathlib.Core.List.{List, [], _∷_}
+use Prim.Native.Nat.{ℕ, _≤_, _<_, _^_}
 use lib.Dec.{ltb, eqb}
 use lib.IntN.{ℤ}
-use lib.ListN.{length, take}
+use lib.ListN.{length, take, set}
 use lib.Seq.{sets}
+use lib.Signed.{mag}
+use mir.Val.{toZ, ofZ}
+use mir.Syntax.{w32}
 use Rattle.exact.specs.Filling.{over}
 use Rattle.exact.proofs.FillingLaws.{sets-over, take-over}
+use Rattle.exact.proofs.SignedCode.{reads-back}
 use Rattle.net.specs.Net.{triangleAt}
 use Rattle.net.specs.Refusals.{badSize, shortNet, accepted, outputAfter}
 use Rattle.net.proofs.Faults.{or-second, answered, not-accepted, cond-true, cond-false, when-refused}
-use Rattle.places.specs.Places.{chosen}
-use Rattle.places.specs.Refusals.{noPlace}
 use Rattle.triangles.specs.Refusals.{triangleBeyond}
 use Rattle.bezier.specs.BezierNet.{bezierNumbers}
 use Rattle.bezier.specs.Answers.{bezierOutput}
 use Rattle.bezier.specs.Refusals.{noTriangle, bezierRefusal}
-use Rattle.surface.specs.Refusals.{pointRefusal}
 use Rattle.refine.proofs.CallLaws.{Left}
 use Rattle.refined_points.specs.DemandThree.{Claimed}
-use Rattle.ups.specs.Exports.{bezierExport, pointExport, withRoom}
+use Rattle.ups.specs.Exports.{bezierExport}
 
 -- a test that is joined by one that fails
 or-false : (a : Bool) {b : Bool} → b ≡ false → a ≡ (a || b)
@@ -56,50 +56,28 @@ bezier-outcome net w h i j down out e k q = (
   q ∙ ap (λ (m : ℕ). outputAfter m (bezierNumbers net w (triangleAt i j (eqb down 1))) out) (sym k),
 )
 
--- 5 put into its place among a point's refusals
-in-place : (t₁ t₆ t₂ t₅ t₃ : Bool) →
-    withRoom t₅ (cond t₁ 1 (cond t₆ 6 (cond t₂ 2 (cond t₃ 3 0))))
-    ≡ cond t₁ 1 (cond t₆ 6 (cond t₂ 2 (cond t₅ 5 (cond t₃ 3 0))))
-in-place true t₆ t₂ true t₃ = refl
-in-place true t₆ t₂ false t₃ = refl
-in-place false true t₂ true t₃ = refl
-in-place false true t₂ false t₃ = refl
-in-place false false true true t₃ = refl
-in-place false false true false t₃ = refl
-in-place false false false true true = refl
-in-place false false false true false = refl
-in-place false false false false t₃ = refl
+-- three coordinates, out of the bits that hold them, over the front of an output
+pub stored-point : (x y z : ℤ) (out : List ℤ) {after : List ℤ} → mag x < 2 ^ 31 → mag y < 2 ^ 31 → mag z < 2 ^ 31 →
+    3 ≤ length out →
+    after ≡ set (set (set out 0 (toZ w32 (ofZ w32 x))) 1 (toZ w32 (ofZ w32 y))) 2 (toZ w32 (ofZ w32 z)) →
+    after ≡ over (x ∷ y ∷ z ∷ []) out
+stored-point x y z out f g h room e =
+    e ∙ (λ t. set (set (set out 0 (reads-back w32 x f t)) 1 (reads-back w32 y g t)) 2 (reads-back w32 z h t))
+    ∙ sets-over (x ∷ y ∷ z ∷ []) out room
 
-pub point-export : (net : List ℤ) (w h p q room : ℕ) →
-    withRoom (ltb room 3) (pointRefusal net w h p q) ≡ pointExport net w h p q room
-point-export net w h p q room =
-    in-place (badSize w h) (noPlace 1024 w h p q) (shortNet net w h) (ltb room 3)
-    (triangleBeyond net w (chosen 1024 w h p q))
+-- an answer whose values go into an output: what the export answers, and what stands in the output
+module _ {A : Type 0} (r : ℕ) (values out : List A) where
+  pub point-exported : {l after : List A} → _≡_ {A = ℕ × List A} (0, l) (r, cond (accepted r) values []) →
+      after ≡ over l out → (0 ≡ r) × (after ≡ outputAfter 0 values out)
+  point-exported e stored =
+      let outcome = answered r values e in
+      (sym (outcome .0), stored ∙ ap (λ (l : List A). over l out) (outcome .1))
 
--- a refusal stays one, whatever the room
-still-refused : (short : Bool) (n : ℕ) → (n ≡ 0 → ⊥) → withRoom short n ≡ 0 → ⊥
-still-refused false n k e = k e
-still-refused true n k e = at (eqb n 0 || eqb n 3) e
-  where
-    at : (b : Bool) → cond b 5 n ≡ 0 → ⊥
-    at true q = omega (arith, q)
-    at false q = k q
-
--- an accepted point: what the export answers with and without room
-pub point-accepted : (net : List ℤ) (w h p q room : ℕ) (short : Bool) → ltb room 3 ≡ short →
-    pointRefusal net w h p q ≡ 0 →
-    withRoom short 0 ≡ pointExport net w h p q room
-point-accepted net w h p q room short e z = (λ t. withRoom (sym e t) (sym z t)) ∙ point-export net w h p q room
-
-module _ {A : Type 0} (net : List ℤ) (w h p q : ℕ) (out result : List A) where
-  -- a refused point
-  pub point-refused : {n m : ℕ} → m ≡ pointRefusal net w h p q → (pointRefusal net w h p q ≡ 0 → ⊥) →
-      n ≡ withRoom (ltb (length out) 3) m →
-      (n ≡ pointExport net w h p q (length out)) × (out ≡ outputAfter n result out)
-  point-refused {n} {m} e k r = (
-    r ∙ ap (withRoom (ltb (length out) 3)) e ∙ point-export net w h p q (length out),
-    when-refused n (over result out) out (λ z. still-refused (ltb (length out) 3) m (λ y. k (sym e ∙ y)) (sym r ∙ z)),
-  )
+  pub point-refused : {n : ℕ} → 0 < length values →
+      _≡_ {A = ℕ × List A} (n, []) (r, cond (accepted r) values []) → (n ≡ r) × (out ≡ outputAfter n values out)
+  point-refused {n} some e =
+      let same : n ≡ r = λ t. e t .0 in
+      (same, when-refused n (over values out) out (λ z. not-accepted r values some e (sym same ∙ z)))
 
 -- an answer with values that go into an output of their own: what the export answers, and what stands in its two
 -- outputs

@@ -1,7 +1,7 @@
 -- The calls of document 01 for callers in C and Rust: an answer is document 01's number, 0 where the call is accepted,
 -- and a result goes into a lent output, in whose place document 01's order has 5.
 use mathlib.Core.Path.{_≡_, refl}
-use mathlib.Core.Bool.{Bool, true, false, cond, _||_}
+use mathlib.Core.Bool.{true, false, _||_}
 use mathlib.Core.List.{List, [], _∷_}
 use Prim.Native.Nat.{ℕ, _-_}
 use lib.Dec.{ltb, eqb}
@@ -10,10 +10,9 @@ use lib.ListN.{length}
 use Rattle.exact.specs.Filling.{runs}
 use Rattle.net.specs.Net.{Triangle, triangleAt, numbers, squares}
 use Rattle.net.specs.Refusals.{firstFault, badSize, shortNet, netBeyond, zeros, tooLarge, tooFew}
-use Rattle.places.specs.Places.{chosen}
-use Rattle.places.specs.Refusals.{noPlace}
 use Rattle.triangles.specs.Refusals.{triangleBeyond}
 use Rattle.bezier.specs.Refusals.{noTriangle}
+use Rattle.surface.specs.Refusals.{pointRefusalWith}
 use Rattle.refined_points.specs.Answers.{refusalAt}
 use Rattle.words.specs.NetFile.{wordBytes, firstWord, pointBytes, netFile, fileSize, fileWidth, fileHeight}
 use Rattle.writer.specs.Refusals.{writeRefusal, noRoom}
@@ -35,18 +34,7 @@ bezierExport net w h i j down room =
 
 -- three numbers of room for a point
 abbrev pub pointExport : List ℤ → ℕ → ℕ → ℕ → ℕ → ℕ → ℕ
-pointExport net w h p q room =
-    firstFault
-    ((badSize w h, 1)
-    ∷ (noPlace 1024 w h p q, 6)
-    ∷ (shortNet net w h, 2)
-    ∷ (ltb room 3, 5)
-    ∷ (triangleBeyond net w (chosen 1024 w h p q), 3)
-    ∷ [])
-
--- a refusal of a point, 0 for none, where the output is too short for it: 5 comes before 3
-abbrev pub withRoom : Bool → ℕ → ℕ
-withRoom short n = cond short (cond (eqb n 0 || eqb n 3) 5 n) n
+pointExport net w h p q room = pointRefusalWith net w h p q (ltb room 3)
 
 -- of a refined point, 5 is of the output, of the scratch or of the point's three numbers
 abbrev pub refinedPointExport : List ℤ → ℕ → ℕ → ℕ → ℕ → ℕ → List ℤ → List ℤ → List ℤ → ℕ

@@ -19,14 +19,13 @@ use split::split;
 use surface::PointAnswer;
 use surface::ViewAnswer;
 use surface::ViewPoint;
-use surface::surface_point;
-use surface::view_point;
+use surface::surface_point_with;
+use surface::view_point_with;
 use writer::WriteAnswer;
 use writer::write_with;
 ghost use mathlib.Core.Path.{_≡_};
 ghost use mathlib.Core.List.{[], _∷_};
 ghost use Prim.Native.Nat.{_≤_};
-ghost use lib.Dec.{ltb};
 ghost use lib.ListN.{length, take};
 ghost use Rattle.exact.specs.Filling.{over};
 ghost use Rattle.net.specs.Refusals.{outputAfter, vertexRefusal};
@@ -44,7 +43,7 @@ ghost use Rattle.details.specs.Cleaning.{cleanedDetails};
 ghost use Rattle.split.specs.Answers.{splitRefusalOf, splitCoarse, splitDetails};
 ghost use Rattle.merge.specs.Merge.{mergedNet};
 ghost use Rattle.merge.specs.Answers.{mergeRefusalOf};
-ghost use Rattle.ups.specs.Exports.{exportedTriangle, bezierExport, pointExport, withRoom, refinedPointExport, writeExport, writtenCount, readExport, readSize};
+ghost use Rattle.ups.specs.Exports.{exportedTriangle, bezierExport, pointExport, refinedPointExport, writeExport, writtenCount, readExport, readSize};
 
 // 1, 6, 2, or 0: the companion of the vertex part.
 #[no_mangle]
@@ -82,21 +81,6 @@ pub extern "C" fn ups_bezier_net(
     }
 }
 
-// A refusal of a point, or 5 where the output has no room for it and nothing before 5 refuses.
-fn with_room(n: u32, room: usize) -> u32
-    ensures { λ r. ⌜ r ≡ withRoom (ltb room 3) n ⌝ }
-{
-    if room < 3 {
-        if n == 0 {
-            return 5;
-        }
-        if n == 3 {
-            return 5;
-        }
-    }
-    n
-}
-
 // The surface point's x, y, z into `out`.
 #[no_mangle]
 pub extern "C" fn ups_surface_point(
@@ -110,16 +94,13 @@ pub extern "C" fn ups_surface_point(
     ensures { λ r. ⌜ r ≡ pointExport (now (net .entry)) w h p q (length (now (out .entry))) ⌝ }
     ensures { λ r. ⌜ now (out .exit) ≡ outputAfter r (surfacePoint (now (net .entry)) w h p q) (now (out .entry)) ⌝ }
 {
-    let answer = surface_point(net, w, h, p, q);
+    let answer = surface_point_with(net, w, h, p, q, out.len() < 3);
     match answer {
         PointAnswer::At(point) => {
-            if out.len() < 3 {
-                return 5;
-            }
             store_point([point.x, point.y, point.z], 0, out);
             0
         }
-        PointAnswer::Refused(n) => with_room(n, out.len()),
+        PointAnswer::Refused(n) => n,
     }
 }
 
@@ -146,16 +127,13 @@ pub extern "C" fn ups_view_point(
     ensures { λ r. ⌜ r ≡ pointExport (now (net .entry)) w h p q (length (now (out .entry))) ⌝ }
     ensures { λ r. ⌜ now (out .exit) ≡ outputAfter r (viewPoint (now (net .entry)) w h p q) (now (out .entry)) ⌝ }
 {
-    let answer = view_point(net, w, h, p, q);
+    let answer = view_point_with(net, w, h, p, q, out.len() < 3);
     match answer {
         ViewAnswer::At(point) => {
-            if out.len() < 3 {
-                return 5;
-            }
             store_view(point, out);
             0
         }
-        ViewAnswer::Refused(n) => with_room(n, out.len()),
+        ViewAnswer::Refused(n) => n,
     }
 }
 

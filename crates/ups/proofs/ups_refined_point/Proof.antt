@@ -5,20 +5,17 @@ use mathlib.Core.List.{List, [], _∷_}
 use Prim.Native.Nat.{ℕ, _≤_}
 use lib.Dec.{ltb, lit<}
 use lib.IntN.{ℤ}
-use lib.ListN.{length, set}
-use mir.Syntax.{w32}
+use lib.ListN.{length}
 use borrow.Author.Needs.{needs}
 use borrow.Author.Tests.{ltb-false}
 use Rattle.exact.specs.Filling.{over}
-use Rattle.exact.proofs.FillingLaws.{sets-over}
-use Rattle.exact.proofs.SignedCode.{reads-back}
 use Rattle.net.specs.Refusals.{accepted}
 use Rattle.net.proofs.Faults.{answered, not-accepted, when-refused}
 use Rattle.surface.specs.Answers.{pointOutcome}
 use Rattle.steps.specs.RefinedNet.{refinedNet}
 use Rattle.refined_points.specs.Answers.{refusalAt, refinedSurfacePoint}
 use Rattle.refined_points.proofs.RefinedPoints.{point-accepted}
-use Rattle.ups.proofs.Exports.{left-exported, claimed-exported}
+use Rattle.ups.proofs.Exports.{stored-point, left-exported, claimed-exported}
 use Rattle.ups.proofs.ups_refined_point.Statement.{statement}
 use Rattle.ups.proofs.ups_refined_point.Tie as tie
 
@@ -96,10 +93,8 @@ returns c =
     (k .refined-point-with .ensures .output, k .refined-point-with .ensures .scratchFree) in
     let out = s .args .point .now in
     let stored =
-    c .before .store-point .ensures
-    ∙ (λ t. set (set (set out 0 (reads-back w32 (point .x) (fits .0 .1) t)) 1
-    (reads-back w32 (point .y) (fits .1 .0 .1) t)) 2 (reads-back w32 (point .z) (fits .1 .1 .0 .1) t))
-    ∙ sets-over (point .x ∷ point .y ∷ point .z ∷ []) out (room s (given a .0))
+    stored-point (point .x) (point .y) (point .z) out (fits .0 .1) (fits .1 .0 .1) (fits .1 .1 .0 .1)
+    (room s (given a .0)) (c .before .store-point .ensures)
     ∙ ap (λ (l : List ℤ). over l out) (given a .1) in
     let claim =
     claimed-exported (s .args .net .now) (s .args .w) (s .args .h) (s .args .k) (s .args .p) (s .args .q) (values s) out

@@ -1,97 +1,97 @@
 -- `ups::ups_surface_point` meets its contract.
+use mathlib.Core.Path.{_≡_, sym, ap, _∙_}
+use mathlib.Core.Bool.{cond}
 use mathlib.Core.List.{List, [], _∷_}
-use mathlib.Core.Bool.{true, false}
-use mathlib.Core.Path.{refl, sym, ap, _∙_}
+use Prim.Native.Nat.{ℕ, _≤_}
 use lib.Dec.{lit<}
-use lib.ListN.{length, set}
 use lib.IntN.{ℤ}
-use mir.Syntax.{w32}
-use borrow.Author.Tests.{lt-ltb, le-ltb}
+use lib.ListN.{length}
 use borrow.Author.Needs.{needs}
-use Rattle.exact.specs.Filling.{over}
-use Rattle.exact.proofs.SignedCode.{reads-back}
-use Rattle.exact.proofs.FillingLaws.{sets-over}
-use Rattle.net.proofs.Faults.{answered, not-accepted}
-use Rattle.surface.specs.Answers.{pointOutcome, pointAnswer}
+use borrow.Author.Tests.{ltb-false}
+use Rattle.net.specs.Refusals.{accepted}
+use Rattle.net.proofs.Faults.{answered}
+use Rattle.surface.specs.Answers.{pointOutcome}
 use Rattle.surface.specs.SurfacePoint.{surfacePoint}
-use Rattle.ups.proofs.Exports.{point-refused, point-accepted}
+use Rattle.surface.proofs.SurfacePoints.{point-fits}
+use Rattle.ups.specs.Exports.{pointExport}
+use Rattle.ups.proofs.Exports.{stored-point, point-exported, point-refused}
 use Rattle.ups.proofs.ups_surface_point.Statement.{statement}
 use Rattle.ups.proofs.ups_surface_point.Tie as tie
 
-surface-point-requires : tie.Need-surface-point-requires
-surface-point-requires c κs = search needs
+-- what the call answered
+module _ (c : tie.After-surface-point-with) where
+  abbrev start : tie.Start
+  start = c .before
+
+  abbrev out : List ℤ
+  out = start .args .out .now
+
+  abbrev refusal : ℕ
+  refusal =
+      pointExport (start .args .net .now) (start .args .w) (start .args .h) (start .args .p) (start .args .q) (length out)
+
+  abbrev point : List ℤ
+  point = surfacePoint (start .args .net .now) (start .args .w) (start .args .h) (start .args .p) (start .args .q)
+
+  outcome : {n : ℕ} {l : List ℤ} → pointOutcome (c .surface-point-with .result) ≡ (n, l) →
+      _≡_ {A = ℕ × List ℤ} (n, l) (refusal, cond (accepted refusal) point [])
+  outcome e = sym e ∙ c .surface-point-with .ensures
+
+  -- there is room for the point where nothing is refused
+  room : refusal ≡ 0 → 3 ≤ length out
+  room none =
+      ltb-false (length out) 3
+      (point-fits (start .args .net .now) (start .args .w) (start .args .h) (start .args .p) (start .args .q) _ none)
+
+-- of an answer with a point
+module _ (c : tie.After-answer) where
+  abbrev call : tie.After-surface-point-with
+  call = c .before .before
+
+  answer : (let at = c .answer .given .0 .0 in
+      _≡_ {A = ℕ × List ℤ} (0, at .x ∷ at .y ∷ at .z ∷ []) (refusal call, cond (accepted (refusal call)) (point call) []))
+  answer = outcome call (ap pointOutcome (c .answer .given .1))
+
+  fits : 3 ≤ length (out call)
+  fits = room call (answered (refusal call) (point call) answer .0)
+
+surface-point-with-requires : tie.Need-surface-point-with-requires
+surface-point-with-requires c κs = search needs
 
 enum-known-answer : tie.Need-enum-known-answer
 enum-known-answer c = search needs
 
-returns : tie.Need-returns
-unfolding pointAnswer
-returns c =
-    let k = c .before .before in
-    let a = k .before .before .before .args in
-    let outcome =
-    answered _ (surfacePoint (a .net .now) (a .w) (a .h) (a .p) (a .q))
-    (sym (ap pointOutcome (k .answer .given .1)) ∙ k .before .before .surface-point .ensures) in (
-      point-accepted (a .net .now) (a .w) (a .h) (a .p) (a .q) (length (a .out .now)) true (lt-ltb _ _ (c .if1 .taken))
-          (outcome .0),
-      refl,
-    )
-
 store-point-requires : tie.Need-store-point-requires
-store-point-requires c κs = search needs
+store-point-requires c κs = fits (c .before .before .before)
 
 enum-known-answer-2 : tie.Need-enum-known-answer-2
 enum-known-answer-2 c = search needs
 
-with-room-requires : tie.Need-with-room-requires
-with-room-requires c κs = search needs
-
 same-length : tie.Need-same-length
 same-length c = search needs
 
-returns-2 : tie.Need-returns-2
-unfolding pointAnswer
-returns-2 c =
-    let e = c .before .before .before .before in
-    let k = e .before .before in
-    let a = k .before .before .before .args in
-    let outcome =
-    answered _ (surfacePoint (a .net .now) (a .w) (a .h) (a .p) (a .q))
-    (sym (ap pointOutcome (k .answer .given .1)) ∙ k .before .before .surface-point .ensures) in
-    let point = k .answer .given .0 .0 in
-    let fits = c .before .before .before .struct-told .given in
-    let out = a .out .now in (
-      point-accepted (a .net .now) (a .w) (a .h) (a .p) (a .q) (length out) false (le-ltb _ _ (e .if1 .left))
-          (outcome .0),
-      c .before .store-point .ensures
-          ∙ (λ t. set (set (set out 0 (reads-back w32 (point .x) (fits .0 .1) t)) 1
-          (reads-back w32 (point .y) (fits .1 .0 .1) t)) 2 (reads-back w32 (point .z) (fits .1 .1 .0 .1) t))
-          ∙ sets-over (point .x ∷ point .y ∷ point .z ∷ []) out (e .if1 .left)
-          ∙ ap (λ (l : List ℤ). over l out) (outcome .1),
-    )
+returns : tie.Need-returns
+returns c =
+    let a = c .before .before .before .before .before in
+    let at = a .answer .given .0 .0 in
+    let held = c .before .before .before .struct-told .given in
+    point-exported (refusal (call a)) (point (call a)) (out (call a)) (answer a)
+    (stored-point (at .x) (at .y) (at .z) (out (call a)) (held .0 .1) (held .1 .0 .1) (held .1 .1 .0 .1) (fits a)
+    (c .before .store-point .ensures))
 
-returns-3 : tie.Need-returns-3
-unfolding pointAnswer
-returns-3 c =
-    let k = c .before .before in
-    let a = k .before .before .before .args in
-    let outcome = sym (ap pointOutcome (k .answer2 .given .1)) ∙ k .before .before .surface-point .ensures in
-    point-refused (a .net .now) (a .w) (a .h) (a .p) (a .q) (a .out .now)
-    (surfacePoint (a .net .now) (a .w) (a .h) (a .p) (a .q))
-    (λ t. outcome t .0)
-    (not-accepted _ (surfacePoint (a .net .now) (a .w) (a .h) (a .p) (a .q)) (lit< tt) outcome)
-    (c .with-room .ensures)
+returns-2 : tie.Need-returns-2
+returns-2 c =
+    let k = c .before .before .before in
+    point-refused (refusal k) (point k) (out k) (lit< tt) (outcome k (ap pointOutcome (c .before .answer2 .given .1)))
 
 pub ups-surface-point-spec : {M : Type 1} → statement M
 ups-surface-point-spec =
     tie.close
     (tie.spec
-    surface-point-requires
+    surface-point-with-requires
     enum-known-answer
-    returns
     store-point-requires
     enum-known-answer-2
-    with-room-requires
     same-length
-    returns-2
-    returns-3)
+    returns
+    returns-2)
