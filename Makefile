@@ -6,9 +6,31 @@ list:
 	@rt check listing >target/list.log 2>&1 || { cat target/list.log >&2; exit 1; }
 	@target/bin/listing <$(NET)
 
-# the kernel's time over plain Rust's
-bench:
+# the static library, anew only where a source is newer, since rt proves all of it first
+LIBRARY = target/staticlib/libups.a
+
+lib: $(LIBRARY)
+
+$(LIBRARY): crates.txt $(shell find crates -name '*.rt' -o -name '*.antt')
 	rt staticlib ups
+
+# library, header and pkg-config's file: make install PREFIX=path; DESTDIR is for packages, and ups.pc does not name it
+PREFIX ?= /usr/local
+TO = $(DESTDIR)$(PREFIX)
+
+# ups.pc is installed for its mode and then filled in; its prefix is absolute, as it is used from any folder
+install: lib
+	install -d "$(TO)/lib/pkgconfig" "$(TO)/include"
+	install -m 644 $(LIBRARY) "$(TO)/lib/libups.a"
+	install -m 644 include/ups.h "$(TO)/include/ups.h"
+	install -m 644 ups.pc.in "$(TO)/lib/pkgconfig/ups.pc"
+	sed 's|@PREFIX@|$(abspath $(PREFIX))|' ups.pc.in >"$(TO)/lib/pkgconfig/ups.pc"
+
+uninstall:
+	rm -f "$(TO)/lib/libups.a" "$(TO)/include/ups.h" "$(TO)/lib/pkgconfig/ups.pc"
+
+# the kernel's time over plain Rust's
+bench: lib
 	cd bench && CARGO_TARGET_DIR=../target/rust-bench cargo run --offline --release
 
-.PHONY: list bench
+.PHONY: list lib install uninstall bench

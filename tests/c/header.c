@@ -1,0 +1,352 @@
+/* What ups.h adds to the library, against the library: the sizes, the room for a file's net, the record of a vertex,
+ * the sentences of the refusals; and that every slice may be a null pointer with length 0. Prints a line for each
+ * failure. Memory has the exact length that is lent, so that AddressSanitizer sees the header read past it. */
+#include <stdio.h>
+#include <stdlib.h>
+#include <string.h>
+#include <ups.h>
+
+#define COUNT(array) (sizeof(array) / sizeof *(array))
+
+static char subject[80];
+static int failures;
+
+static void about(const char *name, size_t w, size_t h, size_t k) {
+    snprintf(subject, sizeof subject, "%s, %zu by %zu, %zu", name, w, h, k);
+}
+
+static void check(int good, const char *what) {
+    if (!good) {
+        printf("%s: %s\n", subject, what);
+        failures++;
+    }
+}
+
+/* Memory for `count` elements, all 0. */
+static void *lend(size_t count, size_t element) {
+    void *memory = calloc(count, element);
+    if (memory == NULL && count > 0) {
+        puts("no memory");
+        exit(1);
+    }
+    return memory;
+}
+
+static int32_t *numbers(size_t count) {
+    return (int32_t *)lend(count, sizeof(int32_t));
+}
+
+static void check_file_sizes(size_t w, size_t h) {
+    size_t n = ups_net_numbers(w, h), bytes = ups_file_bytes(w, h);
+    int32_t *net = numbers(n);
+    uint8_t *file = (uint8_t *)lend(bytes, 1);
+    uint64_t written[1] = {0}, size[2] = {0, 0};
+    about("net and file", w, h, 0);
+    check(ups_vertex_refusal(net, n, w, h, w - 1, h - 1) == UPS_ACCEPTED, "net");
+    check(ups_vertex_refusal(net, n - 1, w, h, w - 1, h - 1) == UPS_SHORT, "a shorter net");
+    check(ups_write(net, n, w, h, file, bytes - 1, written, 1) == UPS_ROOM, "a shorter file");
+    check(ups_write(net, n, w, h, file, bytes, written, 1) == UPS_ACCEPTED && written[0] == bytes, "file");
+    check(ups_file_numbers(file, bytes) == n, "the file's numbers");
+    check(ups_read(file, bytes, net, n - 1, size, 2) == UPS_ROOM, "a shorter net to read into");
+    check(ups_read(file, bytes, net, n, size, 2) == UPS_ACCEPTED && size[0] == w && size[1] == h, "reading");
+    free(file);
+    free(net);
+}
+
+/* The last place of the refined net tells each refined side by itself. */
+static void check_refined_sides(const int32_t *net, size_t w, size_t h, size_t k) {
+    size_t n = ups_net_numbers(w, h), refined = ups_refined_numbers(w, h, k), rest = ups_scratch_numbers(w, h, k);
+    size_t p = 1024 * (ups_side_after(w, k) - 1), q = 1024 * (ups_side_after(h, k) - 1);
+    int32_t *out = numbers(refined), *scratch = numbers(rest), at[UPS_POINT];
+    check(ups_refined_point(net, n, w, h, k, p, q, out, refined, scratch, rest, at, UPS_POINT) == UPS_ACCEPTED,
+          "the last place");
+    check(ups_refined_point(net, n, w, h, k, p + 1, q, out, refined, scratch, rest, at, UPS_POINT) == UPS_PLACE,
+          "a place beyond the width");
+    check(ups_refined_point(net, n, w, h, k, p, q + 1, out, refined, scratch, rest, at, UPS_POINT) == UPS_PLACE,
+          "a place beyond the height");
+    free(scratch);
+    free(out);
+}
+
+static void check_steps(size_t w, size_t h, size_t k) {
+    size_t n = ups_net_numbers(w, h), refined = ups_refined_numbers(w, h, k), rest = ups_scratch_numbers(w, h, k);
+    int32_t *net = numbers(n), *out = numbers(refined), *scratch = numbers(rest);
+    about("steps", w, h, k);
+    if (refined == 0) {
+        check(rest == 0, "scratch of refused steps");
+        check(ups_refine(net, n, w, h, k, out, 0, scratch, 0) == UPS_DEPTH, "refused steps");
+    } else {
+        check(ups_refine(net, n, w, h, k, out, refined, scratch, rest) == UPS_ACCEPTED, "output and scratch");
+        check(ups_refine(net, n, w, h, k, out, refined - 1, scratch, rest) == UPS_ROOM, "a shorter output");
+        check(rest == 0 || ups_refine(net, n, w, h, k, out, refined, scratch, rest - 1) == UPS_ROOM,
+              "a shorter scratch");
+        check_refined_sides(net, w, h, k);
+    }
+    free(scratch);
+    free(out);
+    free(net);
+}
+
+static void check_merge_sizes(size_t w, size_t h, int32_t *coarse, int32_t *details) {
+    size_t n = ups_net_numbers(w, h), merged = ups_refined_numbers(w, h, 1);
+    size_t rest = ups_detail_numbers(ups_side_after(w, 1), ups_side_after(h, 1));
+    int32_t *out = numbers(merged);
+    about("merge", w, h, 1);
+    check(ups_merge(coarse, n, details, rest, w, h, out, merged) == UPS_ACCEPTED, "all lengths");
+    check(ups_merge(coarse, n - 1, details, rest, w, h, out, merged) == UPS_SHORT, "a shorter coarse net");
+    check(ups_merge(coarse, n, details, rest - 1, w, h, out, merged) == UPS_SHORT, "shorter details");
+    check(ups_merge(coarse, n, details, rest, w, h, out, merged - 1) == UPS_ROOM, "a shorter output");
+    free(out);
+}
+
+static void check_split_sizes(size_t w, size_t h) {
+    size_t n = ups_net_numbers(w, h), m = ups_coarse_numbers(w, h), rest = ups_detail_numbers(w, h);
+    int32_t *net = numbers(n), *coarse = numbers(m), *details = numbers(rest);
+    about("split and clean", w, h, 0);
+    if (m == 0) {
+        check(rest == 0, "details of even sides");
+        check(ups_split(net, n, w, h, coarse, 0, details, 0) == UPS_EVEN, "split of even sides");
+        check(ups_clean(details, 0, w, h, 1) == UPS_EVEN, "clean of even sides");
+    } else {
+        check(ups_split(net, n, w, h, coarse, m, details, rest) == UPS_ACCEPTED, "all lengths");
+        check(ups_split(net, n, w, h, coarse, m - 1, details, rest) == UPS_ROOM, "a shorter coarse net");
+        check(ups_split(net, n, w, h, coarse, m, details, rest - 1) == UPS_ROOM, "shorter details");
+        check(ups_clean(details, rest, w, h, 1) == UPS_ACCEPTED, "details to clean");
+        check(ups_clean(details, rest - 1, w, h, 1) == UPS_SHORT, "shorter details to clean");
+        check_merge_sizes(ups_coarse_side(w), ups_coarse_side(h), coarse, details);
+    }
+    free(details);
+    free(coarse);
+    free(net);
+}
+
+static void check_sizes(size_t w, size_t h) {
+    check_file_sizes(w, h);
+    check_split_sizes(w, h);
+    for (size_t k = 0; k <= UPS_GREATEST_DEPTH + 1; k++) {
+        check_steps(w, h, k);
+    }
+    check_steps(w, h, SIZE_MAX);
+}
+
+/* One side is refused at least, so the library refuses both without a net, and every size is 0. */
+static void check_refused(size_t w, size_t h) {
+    about("refused sides", w, h, 0);
+    check(ups_vertex_refusal(NULL, 0, w, h, 0, 0) == UPS_SIZE, "the library accepts them");
+    check(ups_net_numbers(w, h) == 0, "ups_net_numbers");
+    for (size_t k = 0; k <= UPS_GREATEST_DEPTH; k++) {
+        check(ups_side_after(w, k) == 0 || ups_side_after(h, k) == 0, "ups_side_after");
+        check(ups_refined_numbers(w, h, k) == 0, "ups_refined_numbers");
+        check(ups_scratch_numbers(w, h, k) == 0, "ups_scratch_numbers");
+    }
+    check(ups_file_bytes(w, h) == 0, "ups_file_bytes");
+    check(ups_coarse_side(w) == 0 || ups_coarse_side(h) == 0, "ups_coarse_side");
+    check(ups_coarse_numbers(w, h) == 0, "ups_coarse_numbers");
+    check(ups_detail_numbers(w, h) == 0, "ups_detail_numbers");
+}
+
+static void check_all_sizes(void) {
+    const size_t sides[] = {2, 3, 4, 5, 17, 18, 33, 34, 65, 66, 129, 130, 257, 258, 513, 514, 1023, 1024, 1025};
+    /* the last ones would overflow to small sizes in a shift by 1 or 6, or in a product with the record or 4 */
+    const size_t refused[] = {0, 1, 1026, 1027, 2049, SIZE_MAX, SIZE_MAX / 2, SIZE_MAX / 2 + 3, SIZE_MAX / 64 + 3,
+                              SIZE_MAX / UPS_RECORD + 1, SIZE_MAX / 4 + 2};
+    for (size_t n = 0; n < COUNT(sides); n++) {
+        check_sizes(sides[n], 3);
+        check_sizes(2, sides[n]);
+    }
+    check_sizes(17, 17);
+    check_sizes(UPS_GREATEST_SIDE, UPS_GREATEST_SIDE);
+    for (size_t n = 0; n < COUNT(refused); n++) {
+        check_refused(refused[n], 3);
+        check_refused(3, refused[n]);
+        check_refused(refused[n], refused[n]);
+    }
+}
+
+/* A file of two words alone: with the room that it asks for, the next word is missing; with less there is no room. */
+static void check_head(size_t w, size_t h) {
+    uint8_t *head = (uint8_t *)lend(8, 1);
+    uint64_t size[2];
+    size_t n;
+    int32_t *net;
+    for (int byte = 0; byte < 4; byte++) {
+        head[byte] = (uint8_t)(((1u << 28) + w) >> (24 - 8 * byte));
+        head[4 + byte] = (uint8_t)(((2u << 28) + h) >> (24 - 8 * byte));
+    }
+    about("head of a file", w, h, 0);
+    n = ups_file_numbers(head, 8);
+    net = numbers(n);
+    check(n == ups_net_numbers(w, h), "numbers");
+    check(ups_read(head, 8, net, n, size, 2) == (n == 0 ? UPS_SIZE : UPS_MISSING_WORD), "reading");
+    check(n == 0 || ups_read(head, 8, net, n - 1, size, 2) == UPS_ROOM, "a shorter net");
+    head[0] ^= 0xf0;
+    head[4] ^= 0x10;
+    check(ups_file_numbers(head, 8) == n, "numbers, words of other kinds");
+    check(ups_read(head, 8, net, n, size, 2) == UPS_WRONG_WORD, "reading words of other kinds");
+    free(net);
+    free(head);
+}
+
+static void check_file_numbers(void) {
+    const size_t sides[] = {0, 1, 2, 3, 255, 256, 1025, 1026, 0x10002, 0x1000002, 0x8000002, 0xfffffff};
+    uint8_t whole[4 * (6 * UPS_FILE_WORDS + 3)];
+    int32_t net[6 * UPS_RECORD] = {0};
+    uint64_t written[1], size[2];
+    for (size_t n = 0; n < COUNT(sides); n++) {
+        check_head(sides[n], 2);
+        check_head(3, sides[n]);
+    }
+    about("file", 3, 2, 0);
+    check(ups_write(net, COUNT(net), 3, 2, whole, COUNT(whole), written, 1) == UPS_ACCEPTED, "writing");
+    for (size_t len = 0; len < COUNT(whole); len++) {
+        uint8_t *cut = (uint8_t *)lend(len, 1);
+        memcpy(cut, whole, len);
+        about("cut file", 3, 2, len);
+        check(ups_file_numbers(cut, len) == (len < 8 ? 0 : COUNT(net)), "numbers");
+        check(ups_read(cut, len, net, ups_file_numbers(cut, len), size, 2) == UPS_MISSING_WORD, "reading");
+        free(cut);
+    }
+    check(ups_file_numbers(NULL, 0) == 0, "numbers of no file");
+}
+
+static void check_vertices(void) {
+    const size_t w = 3, h = 2, n = ups_net_numbers(w, h);
+    int32_t *net = numbers(n);
+    about("vertex", w, h, 0);
+    for (size_t at = 0; at < n; at++) {
+        net[at] = (int32_t)at;
+    }
+    for (size_t at = 0; at < w * h; at++) {
+        const int32_t *record = ups_vertex(net, n, w, h, at % w, at / w);
+        check(record == net + at * UPS_RECORD, "another record");
+        check(record != NULL && record[UPS_RECORD - 1] == (int32_t)(at * UPS_RECORD + UPS_RECORD - 1), "last number");
+    }
+    check(ups_vertex(net, n, 1, h, 0, 0) == NULL, "a refused side");
+    check(ups_vertex(net, n, w, h, w, 0) == NULL, "no such column");
+    check(ups_vertex(net, n, w, h, 0, h) == NULL, "no such row");
+    check(ups_vertex(net, n, w, h, SIZE_MAX, SIZE_MAX) == NULL, "the greatest column and row");
+    check(ups_vertex(net, n - 1, w, h, 0, 0) == NULL, "a short net");
+    check(ups_vertex(NULL, 0, w, h, 0, 0) == NULL, "no net");
+    free(net);
+}
+
+static void check_texts(void) {
+    const char *other = "not a refusal of this library";
+    for (uint32_t a = 0; a <= UPS_THRESHOLD; a++) {
+        about("sentence", 0, 0, a);
+        check(ups_refusal_text(a)[0] != '\0', "empty");
+        check(strcmp(ups_refusal_text(a), other) != 0, "not a refusal's");
+        for (uint32_t b = 0; b < a; b++) {
+            check(strcmp(ups_refusal_text(a), ups_refusal_text(b)) != 0, "another refusal's");
+        }
+    }
+    check(strcmp(ups_refusal_text(UPS_THRESHOLD + 1), other) == 0, "of 13");
+    check(strcmp(ups_refusal_text(UINT32_MAX), other) == 0, "of the greatest number");
+}
+
+/* For the rest: nets of 3 by 3, of 2 by 2 and of 5 by 5, and what belongs to that of 3 by 3, all accepted. */
+enum {
+    SIDE = 3,
+    NUMBERS = SIDE * SIDE * UPS_RECORD,
+    DETAILS = SIDE * SIDE * UPS_DETAIL_RECORD,
+    COARSE = 2 * 2 * UPS_RECORD,
+    FINER = 5 * 5 * UPS_RECORD,
+    BYTES = 4 * (SIDE * SIDE * UPS_FILE_WORDS + 3)
+};
+
+static int32_t net[NUMBERS], coarse[COARSE], details[DETAILS], finer[FINER], bezier[UPS_BEZIER], at[UPS_POINT];
+static double view[UPS_POINT];
+static uint8_t file[BYTES + 1];
+static uint64_t written[1], size[2];
+
+/* The lengths of a point and of a Bezier net, exactly. */
+static void check_lengths(void) {
+    about("length", SIDE, SIDE, 0);
+    check(ups_bezier_net(net, NUMBERS, SIDE, SIDE, 1, 1, 1, bezier, UPS_BEZIER) == UPS_ACCEPTED, "bezier_net");
+    check(ups_bezier_net(net, NUMBERS, SIDE, SIDE, 1, 1, 1, bezier, UPS_BEZIER - 1) == UPS_ROOM, "bezier_net, less");
+    check(ups_surface_point(net, NUMBERS, SIDE, SIDE, 0, 0, at, UPS_POINT) == UPS_ACCEPTED, "surface_point");
+    check(ups_surface_point(net, NUMBERS, SIDE, SIDE, 0, 0, at, UPS_POINT - 1) == UPS_ROOM, "surface_point, less");
+    check(ups_view_point(net, NUMBERS, SIDE, SIDE, 0, 0, view, UPS_POINT) == UPS_ACCEPTED, "view_point");
+    check(ups_view_point(net, NUMBERS, SIDE, SIDE, 0, 0, view, UPS_POINT - 1) == UPS_ROOM, "view_point, less");
+    check(ups_refined_point(net, NUMBERS, SIDE, SIDE, 0, 0, 0, finer, FINER, NULL, 0, at, UPS_POINT - 1) == UPS_ROOM,
+          "refined_point, less");
+}
+
+/* The refusals that nothing else here meets, so that every name has the library's number. */
+static void check_other_refusals(void) {
+    about("refusal", SIDE, SIDE, 0);
+    check(ups_clean(details, DETAILS, SIDE, SIDE, 33554433) == UPS_THRESHOLD, "threshold");
+    check(ups_write(net, NUMBERS, SIDE, SIDE, file, BYTES, written, 1) == UPS_ACCEPTED, "write");
+    check(ups_read(file, BYTES + 1, net, NUMBERS, size, 2) == UPS_TRAILING, "trailing");
+    details[0] = 33554432;
+    check(ups_merge(coarse, COARSE, details, DETAILS, 2, 2, net, NUMBERS) == UPS_RESULT, "result");
+    details[0] = 33554433;
+    check(ups_merge(coarse, COARSE, details, DETAILS, 2, 2, net, NUMBERS) == UPS_RANGE, "range");
+    details[0] = 0;
+}
+
+/* A null pointer with length 0 in the place of each slice. */
+static void check_null_points(void) {
+    about("null slice of points", SIDE, SIDE, 0);
+    check(ups_vertex_refusal(NULL, 0, SIDE, SIDE, 0, 0) == UPS_SHORT, "vertex_refusal, net");
+    check(ups_bezier_net(NULL, 0, SIDE, SIDE, 0, 0, 0, bezier, UPS_BEZIER) == UPS_SHORT, "bezier_net, net");
+    check(ups_bezier_net(net, NUMBERS, SIDE, SIDE, 0, 0, 0, NULL, 0) == UPS_ROOM, "bezier_net, out");
+    check(ups_surface_point(NULL, 0, SIDE, SIDE, 0, 0, at, UPS_POINT) == UPS_SHORT, "surface_point, net");
+    check(ups_surface_point(net, NUMBERS, SIDE, SIDE, 0, 0, NULL, 0) == UPS_ROOM, "surface_point, out");
+    check(ups_view_point(NULL, 0, SIDE, SIDE, 0, 0, view, UPS_POINT) == UPS_SHORT, "view_point, net");
+    check(ups_view_point(net, NUMBERS, SIDE, SIDE, 0, 0, NULL, 0) == UPS_ROOM, "view_point, out");
+}
+
+static void check_null_refining(void) {
+    about("null slice of refining", SIDE, SIDE, 1);
+    check(ups_refine(NULL, 0, SIDE, SIDE, 1, finer, FINER, NULL, 0) == UPS_SHORT, "refine, net");
+    check(ups_refine(net, NUMBERS, SIDE, SIDE, 1, NULL, 0, NULL, 0) == UPS_ROOM, "refine, out");
+    check(ups_refine(net, NUMBERS, SIDE, SIDE, 1, finer, FINER, NULL, 0) == UPS_ACCEPTED, "refine, scratch");
+    check(ups_refine(coarse, COARSE, 2, 2, 2, finer, FINER, NULL, 0) == UPS_ROOM, "refine twice, scratch");
+    check(ups_refined_point(NULL, 0, SIDE, SIDE, 1, 0, 0, finer, FINER, NULL, 0, at, UPS_POINT) == UPS_SHORT,
+          "refined_point, net");
+    check(ups_refined_point(net, NUMBERS, SIDE, SIDE, 1, 0, 0, NULL, 0, NULL, 0, at, UPS_POINT) == UPS_ROOM,
+          "refined_point, out");
+    check(ups_refined_point(net, NUMBERS, SIDE, SIDE, 1, 0, 0, finer, FINER, NULL, 0, at, UPS_POINT) == UPS_ACCEPTED,
+          "refined_point, scratch");
+    check(ups_refined_point(coarse, COARSE, 2, 2, 2, 0, 0, finer, FINER, NULL, 0, at, UPS_POINT) == UPS_ROOM,
+          "refined_point twice, scratch");
+    check(ups_refined_point(net, NUMBERS, SIDE, SIDE, 1, 0, 0, finer, FINER, NULL, 0, NULL, 0) == UPS_ROOM,
+          "refined_point, point");
+}
+
+static void check_null_details(void) {
+    about("null slice of details", SIDE, SIDE, 0);
+    check(ups_split(NULL, 0, SIDE, SIDE, coarse, COARSE, details, DETAILS) == UPS_SHORT, "split, net");
+    check(ups_split(net, NUMBERS, SIDE, SIDE, NULL, 0, details, DETAILS) == UPS_ROOM, "split, coarse");
+    check(ups_split(net, NUMBERS, SIDE, SIDE, coarse, COARSE, NULL, 0) == UPS_ROOM, "split, details");
+    check(ups_merge(NULL, 0, details, DETAILS, 2, 2, net, NUMBERS) == UPS_SHORT, "merge, coarse");
+    check(ups_merge(coarse, COARSE, NULL, 0, 2, 2, net, NUMBERS) == UPS_SHORT, "merge, details");
+    check(ups_merge(coarse, COARSE, details, DETAILS, 2, 2, NULL, 0) == UPS_ROOM, "merge, out");
+    check(ups_clean(NULL, 0, SIDE, SIDE, 1) == UPS_SHORT, "clean, details");
+}
+
+static void check_null_file(void) {
+    about("null slice of a file", SIDE, SIDE, 0);
+    check(ups_write(NULL, 0, SIDE, SIDE, file, BYTES, written, 1) == UPS_SHORT, "write, net");
+    check(ups_write(net, NUMBERS, SIDE, SIDE, NULL, 0, written, 1) == UPS_ROOM, "write, out");
+    check(ups_write(net, NUMBERS, SIDE, SIDE, file, BYTES, NULL, 0) == UPS_ROOM, "write, written");
+    check(ups_write(net, NUMBERS, SIDE, SIDE, file, BYTES, written, 1) == UPS_ACCEPTED, "write");
+    check(ups_read(NULL, 0, net, NUMBERS, size, 2) == UPS_MISSING_WORD, "read, file");
+    check(ups_read(file, BYTES, NULL, 0, size, 2) == UPS_ROOM, "read, net");
+    check(ups_read(file, BYTES, net, NUMBERS, NULL, 0) == UPS_ROOM, "read, size");
+}
+
+int main(void) {
+    check_all_sizes();
+    check_file_numbers();
+    check_vertices();
+    check_texts();
+    check_lengths();
+    check_other_refusals();
+    check_null_points();
+    check_null_refining();
+    check_null_details();
+    check_null_file();
+    return failures > 0;
+}
