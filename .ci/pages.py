@@ -1,9 +1,12 @@
 #!/usr/bin/env python3
 """Checks the pages against the files that they cite. An argument is another root than the repository's.
 
-Of README.md and docs/*.md: every path in backquotes is there. Of these, of docs/landings/*.md and of the comments in
-crates/*/src and crates/*/specs: no line is over 120 characters. Of docs/PROMISES.md, whose label lines ("- Proof: ...", continued on indented lines) have citations with
-semicolons between them, names, "in" and a path, or a path alone:
+Of README.md and docs/*.md: every path in backquotes is there. Of these, of docs/landings/*.md, of the header, the
+examples in C and the comments in crates/*/src and crates/*/specs: no line is over 120 characters, and none cites a
+plan, which a reader of this repository does not have. Some files have at most so many lines (`MOST`). README.md has
+the examples of `COPIED`, each under its heading, as they are in their files.
+Of docs/PROMISES.md, whose label lines ("- Proof: ...", continued on indented lines) have citations with semicolons
+between them, names, "in" and a path, or a path alone:
 1. every name on a label line is declared in the very file that it is said to be in;
 2. every statement of crates/*/specs/Promises.antt and DemandThree.antt, which is an abbreviation whose type is exactly
    `Type 0`, and every `extern "C"` function of crates/ups/src/lib.rt is cited from there.
@@ -17,7 +20,7 @@ ROOT = Path(sys.argv[1]) if len(sys.argv) > 1 else Path(__file__).resolve().pare
 PROMISES = "docs/PROMISES.md"
 LABELS = ("Definition", "Answer", "Stated", "Contract", "Proof")
 
-PATH = r"`((?:crates|docs|tests|bench|include|\.ci)/[^`]*)`"
+PATH = r"`((?:crates|docs|tests|bench|include|examples|rust|\.ci)/[^`]*)`"
 LABELLED = r"^- (\w+):(.*(?:\n  .*)*)"
 CITATION = r"\s*(?:((?:`[^`/]+`,?\s+)+)in\s+)?" + PATH + r"\s*"
 
@@ -34,11 +37,33 @@ DUE = {
     "crates/ups/src/lib.rt": r'^pub extern "C" fn (\w+)',
 }
 
+# the most lines of a file
+MOST = {
+    "README.md": 120,
+    "docs/REFERENCE.md": 200,
+    "examples/door.c": 80,
+    "examples/point.c": 10,
+    "rust/examples/point.rs": 10,
+}
+
+# the examples that README.md has, each as a fenced block under its heading
+COPIED = {"Use it from C": "examples/point.c", "Use it from Rust": "rust/examples/point.rs"}
+
+PLANS = r"\b(?:DESIGN|SPEED|TOOLCHAIN-NOTES|PLAN-[A-Z]+)\b"
+
 faults = []
 
 
 def fault(page, text, at, what):
     faults.append(f"{page}:{text.count(chr(10), 0, at) + 1}: {what}")
+
+
+def text_of(path):
+    file = ROOT / path
+    if not file.is_file():
+        faults.append(f"{path} is not there")
+        return ""
+    return file.read_text("utf-8")
 
 
 def is_declared(name, path):
@@ -48,8 +73,26 @@ def is_declared(name, path):
 
 
 def check_lines(page, text, begins=""):
-    for line in re.finditer(rf"^(?={begins}).{{121,}}$", text, re.M):
-        fault(page, text, line.start(), f"a line of {len(line[0])} characters")
+    for line in re.finditer(rf"^(?={begins}).*$", text, re.M):
+        if len(line[0]) > 120:
+            fault(page, text, line.start(), f"a line of {len(line[0])} characters")
+        if re.search(PLANS, line[0]):
+            fault(page, text, line.start(), "a plan is cited")
+
+
+def check_lengths():
+    for path, most in MOST.items():
+        count = len(text_of(path).splitlines())
+        if count > most:
+            faults.append(f"{path}: {count} lines, and at most {most} are wanted")
+
+
+def check_copies(page, text):
+    for heading, path in COPIED.items():
+        section = re.search(rf"^## {heading}$.*?(?=^## |\Z)", text, re.M | re.S)
+        blocks = re.findall(r"^```\w+\n(.*?)^```$", section[0] if section else "", re.M | re.S)
+        if text_of(path) not in blocks:
+            fault(page, text, section.start() if section else 0, f"{path} does not stand under {heading}")
 
 
 def check_paths(page, text):
@@ -98,6 +141,11 @@ for file in [ROOT / "README.md", *sorted(ROOT.glob("docs/**/*.md"))]:
     check_lines(page, text)
     if "landings" not in page:
         paths |= check_paths(page, text)
+    if page == "README.md":
+        check_copies(page, text)
+check_lengths()
+for file in sorted([*ROOT.glob("include/*.h"), *ROOT.glob("examples/*.c"), *ROOT.glob("tests/c/*.c")]):
+    check_lines(file.relative_to(ROOT).as_posix(), file.read_text("utf-8"))
 for file in sorted([*ROOT.glob("crates/*/src/*.rt"), *ROOT.glob("crates/*/specs/*.antt")]):
     check_lines(file.relative_to(ROOT).as_posix(), file.read_text("utf-8"), " *(?://|--)")
 promises = (ROOT / PROMISES).read_text("utf-8")

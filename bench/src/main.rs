@@ -12,31 +12,27 @@
 //!   as they were; putting them back is not timed.
 //! - `write`, `read`: the file of a net of 1,025 by 1,025; `copy` copies the file's bytes.
 
-mod kernel;
 mod plain;
 mod plain_file;
 mod plain_multiresolution;
 mod plain_refine;
-// Not every function of the library is timed.
-#[allow(dead_code)]
-#[path = "../../tests/src/raw.rs"]
-mod raw;
-#[path = "../../tests/src/record.rs"]
-mod record;
 
 use plain::{Refusal, LIMIT};
 use plain_multiresolution::{merge as plain_merge, split as plain_split};
-use plain_refine::{kind_row, refined, table_row, Size};
-use record::numbers;
+use plain_refine::{kind_row, table_row, Size};
 use std::cell::RefCell;
 use std::hint::black_box;
 use std::time::Instant;
+use ups::{
+    coarse_numbers, coarse_side, detail_numbers, file_bytes, lent, net_numbers, refined_numbers,
+    scratch_numbers, BEZIER, POINT,
+};
 
 const SIDE: usize = 17;
 /// Both sides of the nets that are split, and written to a file and read back.
 const FINE_SIDE: usize = 1025;
 /// Both sides of the coarse net.
-const COARSE_SIDE: usize = FINE_SIDE / 2 + 1;
+const COARSE_SIDE: usize = coarse_side(FINE_SIDE);
 /// Steps of refining.
 const STEPS: usize = 6;
 const CALLS: usize = 4096;
@@ -127,11 +123,9 @@ fn surface_point<'a>(net: &'a [i32], random: &mut Random) -> Subject<'a> {
         kernel: Box::new(move || {
             let mut total = 0;
             for &(p, q) in black_box(&places) {
-                let mut out = [0; 3];
-                let (at, len, to) = (net.as_ptr(), net.len(), out.as_mut_ptr());
-                // SAFETY: the lengths are those of the net and of the output.
-                let refusal = unsafe { raw::ups_surface_point(at, len, SIDE, SIDE, p, q, to, 3) };
-                assert_eq!(refusal, 0);
+                let mut out = [0; POINT];
+                let answer = lent::surface_point(net, SIDE, SIDE, p, q, &mut out);
+                assert_eq!(answer, Ok(()));
                 total += sum(black_box(&out));
             }
             total
@@ -139,7 +133,7 @@ fn surface_point<'a>(net: &'a [i32], random: &mut Random) -> Subject<'a> {
         plain: Box::new(move || {
             let mut total = 0;
             for &(p, q) in black_box(&same) {
-                let mut out = [0; 3];
+                let mut out = [0; POINT];
                 let answer = plain::surface_point(net, (SIDE, SIDE), (p, q), &mut out);
                 assert_eq!(answer, Ok(()));
                 total += sum(black_box(&out));
@@ -163,12 +157,9 @@ fn bezier_net<'a>(net: &'a [i32], random: &mut Random) -> Subject<'a> {
         kernel: Box::new(move || {
             let mut total = 0;
             for &(i, j, down) in black_box(&triangles) {
-                let mut out = [0; 57];
-                let (at, len, to) = (net.as_ptr(), net.len(), out.as_mut_ptr());
-                // SAFETY: the lengths are those of the net and of the output.
-                let refusal =
-                    unsafe { raw::ups_bezier_net(at, len, SIDE, SIDE, i, j, down, to, 57) };
-                assert_eq!(refusal, 0);
+                let mut out = [0; BEZIER];
+                let answer = lent::bezier_net(net, SIDE, SIDE, i, j, down == 1, &mut out);
+                assert_eq!(answer, Ok(()));
                 total += sum(black_box(&out));
             }
             total
@@ -176,7 +167,7 @@ fn bezier_net<'a>(net: &'a [i32], random: &mut Random) -> Subject<'a> {
         plain: Box::new(move || {
             let mut total = 0;
             for &(i, j, down) in black_box(&same) {
-                let mut out = [0; 57];
+                let mut out = [0; BEZIER];
                 let answer = plain::bezier_net(net, (SIDE, SIDE), (i, j), down, &mut out);
                 assert_eq!(answer, Ok(()));
                 total += sum(black_box(&out));
@@ -212,17 +203,13 @@ fn copy(len: usize) -> Pass<'static> {
 
 /// Writes the net in each version and hands its file back.
 fn write_file(net: &[i32]) -> Vec<u8> {
-    let len = plain_file::file_len((FINE_SIDE, FINE_SIDE));
+    let len = file_bytes(FINE_SIDE, FINE_SIDE);
     let (mut out, mut same) = (touched(len), touched(len));
     let kernel = Box::new(|| {
-        let mut written = [0];
-        let (at, count, to) = (net.as_ptr(), net.len(), out.as_mut_ptr());
-        let (w, h, count_to) = (FINE_SIDE, FINE_SIDE, written.as_mut_ptr());
-        // SAFETY: the lengths are those of the net and of the two outputs.
-        let refusal = unsafe { raw::ups_write(at, count, w, h, to, len, count_to, 1) };
-        assert_eq!(refusal, 0);
+        let written = lent::write(black_box(net), FINE_SIDE, FINE_SIDE, &mut out);
+        assert_eq!(written, Ok(len));
         black_box(&out);
-        written[0] as i64
+        len as i64
     });
     let plain = Box::new(|| {
         let mut written = [0];
@@ -243,14 +230,10 @@ fn read_file(file: &[u8], net: &[i32]) {
     let len = net.len();
     let (mut out, mut same) = (touched(len), touched(len));
     let kernel = Box::new(|| {
-        let mut size = [0; 2];
-        let (at, count) = (file.as_ptr(), file.len());
-        let (to, size_to) = (out.as_mut_ptr(), size.as_mut_ptr());
-        // SAFETY: the lengths are those of the file and of the two outputs.
-        let refusal = unsafe { raw::ups_read(at, count, to, len, size_to, 2) };
-        assert_eq!((refusal, size), (0, [FINE_SIDE as u64; 2]));
+        let size = lent::read(black_box(file), &mut out);
+        assert_eq!(size, Ok((FINE_SIDE, FINE_SIDE)));
         black_box(&out);
-        count as i64
+        file.len() as i64
     });
     let plain = Box::new(|| {
         let mut size = [0; 2];
@@ -262,6 +245,11 @@ fn read_file(file: &[u8], net: &[i32]) {
     let times = medians("read", 1, || (), vec![kernel, plain, copy(file.len())]);
     assert!(out == net && same == net, "the nets differ");
     print_times("read", &times);
+}
+
+/// The library's answer in the form of the plain ones.
+fn answer(of_kernel: Result<(), ups::Refusal>) -> Result<(), Refusal> {
+    of_kernel.map_err(ups::Refusal::number)
 }
 
 /// One version of a call, which works in lent numbers.
@@ -327,10 +315,10 @@ type Refine = fn(&[i32], Size, usize, &mut [i32], &mut [i32]) -> Result<(), Refu
 /// Refines the net in each version and hands the refined net back.
 fn refine(net: &[i32]) -> Vec<i32> {
     let size = (SIDE, SIDE);
-    let len = numbers(refined(size, STEPS));
-    let scratch_len = numbers(refined(size, STEPS - 1));
+    let len = refined_numbers(SIDE, SIDE, STEPS);
+    let scratch_len = scratch_numbers(SIDE, SIDE, STEPS);
     let versions: [Refine; 3] = [
-        kernel::refine,
+        |net, (w, h), k, out, scratch| answer(lent::refine(net, w, h, k, out, scratch)),
         |net, size, k, out, scratch| plain_refine::refine(net, size, k, out, scratch, table_row),
         |net, size, k, out, scratch| plain_refine::refine(net, size, k, out, scratch, kind_row),
     ];
@@ -348,10 +336,10 @@ type Split = fn(&[i32], Size, &mut [i32], &mut [i32]) -> Result<(), Refusal>;
 /// Splits the net in each version and hands the coarse net and the details back.
 fn split(net: &[i32]) -> (Vec<i32>, Vec<i32>) {
     let size = (FINE_SIDE, FINE_SIDE);
-    let coarse_len = numbers((COARSE_SIDE, COARSE_SIDE));
-    let len = coarse_len + record::details(size);
+    let coarse_len = coarse_numbers(FINE_SIDE, FINE_SIDE);
+    let len = coarse_len + detail_numbers(FINE_SIDE, FINE_SIDE);
     let versions: [Split; 3] = [
-        kernel::split,
+        |net, (w, h), coarse, details| answer(lent::split(net, w, h, coarse, details)),
         |net, size, coarse, details| plain_split(net, size, coarse, details, table_row),
         |net, size, coarse, details| plain_split(net, size, coarse, details, kind_row),
     ];
@@ -370,9 +358,9 @@ type Merge = fn(&[i32], &[i32], Size, &mut [i32]) -> Result<(), Refusal>;
 
 /// Merges the coarse net and the details in each version and hands the net back.
 fn merge(coarse: &[i32], details: &[i32]) -> Vec<i32> {
-    let len = numbers((FINE_SIDE, FINE_SIDE));
+    let len = net_numbers(FINE_SIDE, FINE_SIDE);
     let versions: [Merge; 3] = [
-        kernel::merge,
+        |coarse, details, (w, h), out| answer(lent::merge(coarse, details, w, h, out)),
         |coarse, details, size, out| plain_merge(coarse, details, size, out, table_row),
         |coarse, details, size, out| plain_merge(coarse, details, size, out, kind_row),
     ];
@@ -390,7 +378,10 @@ fn clean(details: &[i32]) {
     let len = details.len();
     let mut sizes: Vec<u32> = details.iter().map(|x| x.unsigned_abs()).collect();
     let (_, &mut threshold, _) = sizes.select_nth_unstable(len / 2);
-    let versions: [Clean; 2] = [kernel::clean, plain_multiresolution::clean];
+    let versions: [Clean; 2] = [
+        |details, (w, h), t| answer(lent::clean(details, w, h, t)),
+        plain_multiresolution::clean,
+    ];
     let calls = versions.map(|version| -> Call {
         let size = (FINE_SIDE, FINE_SIDE);
         Box::new(move |lent| version(black_box(lent), size, threshold))
@@ -401,7 +392,7 @@ fn clean(details: &[i32]) {
 
 fn random_net(random: &mut Random, side: usize) -> Vec<i32> {
     let values = 2 * LIMIT as usize + 1;
-    (0..numbers((side, side)))
+    (0..net_numbers(side, side))
         .map(|_| random.below(values) as i32 - LIMIT)
         .collect()
 }

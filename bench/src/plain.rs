@@ -2,15 +2,18 @@
 //!
 //! Sums are formed in `i64`; the greatest is 36 times 2^24 times 2^20 in size.
 
-use crate::record::{numbers, POINT_RECORD, RECORD};
+use ups::{net_numbers, BEZIER, POINT, RECORD};
 
 pub const LIMIT: i32 = 16_777_216;
 const EDGE: usize = 1024;
-const BEZIER_NUMBERS: usize = 57;
-const POINT_NUMBERS: usize = 3;
+/// Numbers of a control point in a net: a vertex has three control points.
+pub const POINT_RECORD: usize = RECORD / 3;
 
 /// What is given instead of an answer: the number of the refusal.
 pub type Refusal = u32;
+
+/// A control point as a net stores it.
+pub type Control = [i32; POINT_RECORD];
 
 type Point = [i64; 3];
 
@@ -33,11 +36,11 @@ pub fn check_size(w: usize, h: usize) -> Result<(), Refusal> {
 
 pub fn check_lengths(
     net: &[i32],
-    size: (usize, usize),
+    (w, h): (usize, usize),
     out_len: usize,
     needed: usize,
 ) -> Result<(), Refusal> {
-    if net.len() < numbers(size) {
+    if net.len() < net_numbers(w, h) {
         Err(2)
     } else if out_len < needed {
         Err(5)
@@ -121,7 +124,7 @@ pub fn bezier_net(
     if i > w - 2 || j > h - 2 || down > 1 {
         return Err(6);
     }
-    check_lengths(net, (w, h), out.len(), BEZIER_NUMBERS)?;
+    check_lengths(net, (w, h), out.len(), BEZIER)?;
     let [a, b, c] = corners(net, w, i, j, down as usize)?;
     // P + ek is the next corner, P - em the one before.
     let (ab, ba) = (a.u_ahead(), b.u_behind());
@@ -169,7 +172,7 @@ pub fn surface_point(
     if p > EDGE * (w - 1) || q > EDGE * (h - 1) {
         return Err(6);
     }
-    check_lengths(net, (w, h), out.len(), POINT_NUMBERS)?;
+    check_lengths(net, (w, h), out.len(), POINT)?;
     let (i, j) = ((p / EDGE).min(w - 2), (q / EDGE).min(h - 2));
     let (f, g) = (p - EDGE * i, q - EDGE * j);
     let (down, shares) = if f + g <= EDGE {

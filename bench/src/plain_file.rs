@@ -1,7 +1,7 @@
 //! The net file in plain Rust, to compare the library with.
 
-use crate::plain::{check_lengths, check_size, in_range, Refusal};
-use crate::record::{numbers, POINT_RECORD};
+use crate::plain::{check_lengths, check_size, in_range, Refusal, POINT_RECORD};
+use ups::{file_bytes, net_numbers};
 
 const WIDTH: u32 = 1;
 const HEIGHT: u32 = 2;
@@ -17,11 +17,6 @@ fn points((w, h): (usize, usize)) -> usize {
     3 * w * h
 }
 
-/// The count of bytes of a net's file.
-pub fn file_len(size: (usize, usize)) -> usize {
-    WORD * (POINT.len() * points(size) + 3)
-}
-
 fn word(kind: u32, payload: u32) -> [u8; WORD] {
     (kind << 28 | payload & PAYLOAD).to_be_bytes()
 }
@@ -34,10 +29,10 @@ pub fn write(
     written: &mut [u64],
 ) -> Result<(), Refusal> {
     check_size(w, h)?;
-    let len = file_len((w, h));
+    let len = file_bytes(w, h);
     check_lengths(net, (w, h), out.len(), len)?;
     let written = written.first_mut().ok_or(5_u32)?;
-    let net = &net[..numbers((w, h))];
+    let net = &net[..net_numbers(w, h)];
     if !net.iter().all(in_range) {
         return Err(3);
     }
@@ -101,7 +96,7 @@ fn after_end(words: &[u8], points: usize) -> Result<&[u8], Refusal> {
 pub fn read(file: &[u8], net: &mut [i32], size: &mut [u64]) -> Result<(), Refusal> {
     let (w, rest) = next_side(file, WIDTH)?;
     let (h, words) = next_side(rest, HEIGHT)?;
-    let count = numbers((w, h));
+    let count = net_numbers(w, h);
     if net.len() < count || size.len() < 2 {
         return Err(5);
     }

@@ -2,10 +2,10 @@
 //! rule for a row of the refinement: the one with the weight table, or the one written out for
 //! each kind of vertex. Every fault is found before the first store.
 
-use crate::plain::{check_lengths, check_size, Refusal, LIMIT};
+use crate::plain::{check_lengths, check_size, Control, Refusal, LIMIT};
 use crate::plain_refine::{refined, triangles, triangles_mut, Row, Size, Triangle};
-use crate::record::{self, numbers, Control, DETAIL_RECORD};
 use std::array;
+use ups::{detail_numbers, net_numbers, DETAIL_RECORD};
 
 /// The greatest size of a detail.
 const DETAIL_LIMIT: i32 = 2 * LIMIT;
@@ -39,11 +39,11 @@ pub fn split(
     check_fine(size)?;
     let (w, h) = size;
     let (coarse_w, coarse_h) = (w / 2 + 1, h / 2 + 1);
-    check_lengths(net, size, coarse.len(), numbers((coarse_w, coarse_h)))?;
-    if details.len() < record::details(size) {
+    check_lengths(net, size, coarse.len(), net_numbers(coarse_w, coarse_h))?;
+    if details.len() < detail_numbers(w, h) {
         return Err(5);
     }
-    let net = &net[..numbers(size)];
+    let net = &net[..net_numbers(w, h)];
     if !all_within(LIMIT, net) {
         return Err(3);
     }
@@ -95,10 +95,10 @@ pub fn merge(
     check_size(w, h)?;
     let (wide, high) = refined(size, 1);
     check_size(wide, high).map_err(|_| 4_u32)?;
-    let count = record::details((wide, high));
+    let count = detail_numbers(wide, high);
     let details = details.get(..count).ok_or(2_u32)?;
-    check_lengths(coarse, size, out.len(), numbers((wide, high)))?;
-    let coarse = &coarse[..numbers(size)];
+    check_lengths(coarse, size, out.len(), net_numbers(wide, high))?;
+    let coarse = &coarse[..net_numbers(w, h)];
     if !all_within(LIMIT, coarse) {
         return Err(3);
     }
@@ -148,12 +148,12 @@ fn sum(vertex: &Triangle, details: &Details) -> Triangle {
 }
 
 #[inline(never)]
-pub fn clean(details: &mut [i32], size: Size, t: u32) -> Result<(), Refusal> {
-    check_fine(size)?;
+pub fn clean(details: &mut [i32], (w, h): Size, t: u32) -> Result<(), Refusal> {
+    check_fine((w, h))?;
     if t > DETAIL_LIMIT as u32 {
         return Err(12);
     }
-    let details = details.get_mut(..record::details(size)).ok_or(2_u32)?;
+    let details = details.get_mut(..detail_numbers(w, h)).ok_or(2_u32)?;
     if !all_within(DETAIL_LIMIT, details) {
         return Err(3);
     }

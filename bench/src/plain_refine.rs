@@ -1,9 +1,9 @@
 //! Refinement in plain Rust, to compare the library with: once with the weight table, once
 //! written out for each kind of vertex.
 
-use crate::plain::{check_lengths, check_size, in_range, rounded, Refusal};
-use crate::record::{numbers, Control};
+use crate::plain::{check_lengths, check_size, in_range, rounded, Control, Refusal};
 use std::{array, mem};
+use ups::{net_numbers, scratch_numbers};
 
 pub type Size = (usize, usize);
 
@@ -41,11 +41,11 @@ pub fn refine(
     }
     let (w, h) = refined(size, k);
     check_size(w, h).map_err(|_| 4_u32)?;
-    check_lengths(net, size, out.len(), numbers((w, h)))?;
-    if k >= 2 && scratch.len() < numbers(refined(size, k - 1)) {
+    check_lengths(net, size, out.len(), net_numbers(w, h))?;
+    if scratch.len() < scratch_numbers(size.0, size.1, k) {
         return Err(5);
     }
-    let net = &net[..numbers(size)];
+    let net = &net[..net_numbers(size.0, size.1)];
     if !net.iter().all(in_range) {
         return Err(3);
     }

@@ -353,43 +353,43 @@ impl Call {
     }
 }
 
-fn vertex_answer(refusal: u32) -> Answer {
+pub(crate) fn vertex_answer(refusal: u32) -> Answer {
     match refusal {
         0 => Answer::Accepted,
         number => Answer::Refused(number),
     }
 }
 
-fn numbers_answer<const N: usize>(answer: Result<[i32; N], u32>) -> Answer {
+pub(crate) fn numbers_answer<const N: usize>(answer: Result<[i32; N], u32>) -> Answer {
     list_answer(answer.map(|numbers| numbers.to_vec()))
 }
 
-fn list_answer(answer: Result<Vec<i32>, u32>) -> Answer {
+pub(crate) fn list_answer(answer: Result<Vec<i32>, u32>) -> Answer {
     match answer {
         Ok(numbers) => Answer::Numbers(numbers),
         Err(number) => Answer::Refused(number),
     }
 }
 
-fn refined_answer(answer: Result<RefinedPoint, u32>) -> Answer {
+pub(crate) fn refined_answer(answer: Result<RefinedPoint, u32>) -> Answer {
     match answer {
         Ok(refined) => Answer::Refined(refined),
         Err(number) => Answer::Refused(number),
     }
 }
 
-fn split_answer(answer: Result<Split, u32>) -> Answer {
+pub(crate) fn split_answer(answer: Result<Split, u32>) -> Answer {
     answer.map_or_else(Answer::Refused, Answer::Split)
 }
 
-fn bits_answer<const N: usize>(answer: Result<[u64; N], u32>) -> Answer {
+pub(crate) fn bits_answer<const N: usize>(answer: Result<[u64; N], u32>) -> Answer {
     match answer {
         Ok(bits) => Answer::DoubleBits(bits.to_vec()),
         Err(number) => Answer::Refused(number),
     }
 }
 
-fn bytes_answer(answer: Result<Vec<u8>, u32>) -> Answer {
+pub(crate) fn bytes_answer(answer: Result<Vec<u8>, u32>) -> Answer {
     match answer {
         Ok(bytes) => Answer::Bytes(bytes),
         Err(number) => Answer::Refused(number),

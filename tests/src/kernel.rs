@@ -10,10 +10,10 @@ use crate::netfile::FileNet;
 use crate::oracle::{BEZIER_NUMBERS, POINT_NUMBERS};
 use crate::pages::{Pages, Side};
 use crate::random::mix;
-use crate::raw;
 use crate::record;
 use crate::refinement;
 use std::cell::RefCell;
+use ups::raw;
 
 /// Canary values on each side of a lent slice.
 const GUARD: usize = 128;
@@ -69,7 +69,7 @@ impl Number for f64 {
 pub type Junk<T> = fn(usize) -> T;
 
 /// A lent output, with what lay there before the call.
-struct Output<T> {
+pub(crate) struct Output<T> {
     memory: Vec<T>,
     before: Vec<T>,
     len: usize,
@@ -77,7 +77,7 @@ struct Output<T> {
 
 impl<T: Number> Output<T> {
     /// Filled with canary values as well.
-    fn new(len: usize) -> Self {
+    pub(crate) fn new(len: usize) -> Self {
         Self::over(len, T::canary)
     }
 
@@ -86,7 +86,7 @@ impl<T: Number> Output<T> {
     }
 
     /// Filled with these numbers.
-    fn holding(numbers: &[T]) -> Self {
+    pub(crate) fn holding(numbers: &[T]) -> Self {
         Self::guarded(between_canaries(numbers))
     }
 
@@ -100,11 +100,16 @@ impl<T: Number> Output<T> {
     }
 
     fn pointer(&mut self) -> *mut T {
-        self.memory[GUARD..].as_mut_ptr()
+        self.slice().as_mut_ptr()
+    }
+
+    /// What is lent, without the guards.
+    pub(crate) fn slice(&mut self) -> &mut [T] {
+        &mut self.memory[GUARD..GUARD + self.len]
     }
 
     /// The first `count` numbers when accepted; checks everything that must not have changed.
-    fn front(&self, refusal: u32, count: usize) -> Result<&[T], u32> {
+    pub(crate) fn front(&self, refusal: u32, count: usize) -> Result<&[T], u32> {
         let written = if refusal == 0 { count } else { 0 };
         assert!(written <= self.len, "accepted with a short output");
         let result = GUARD..GUARD + written;
@@ -120,7 +125,7 @@ impl<T: Number> Output<T> {
         }
     }
 
-    fn result<const N: usize>(&self, refusal: u32) -> Result<[T; N], u32> {
+    pub(crate) fn result<const N: usize>(&self, refusal: u32) -> Result<[T; N], u32> {
         let front = self.front(refusal, N)?;
         Ok(std::array::from_fn(|n| front[n]))
     }
@@ -134,7 +139,7 @@ fn between_canaries<T: Number>(numbers: &[T]) -> Vec<T> {
 }
 
 /// A count of numbers in an output; without a length no output is long enough.
-fn count(needed: Option<usize>) -> usize {
+pub(crate) fn count(needed: Option<usize>) -> usize {
     needed.unwrap_or(usize::MAX)
 }
 
@@ -164,13 +169,13 @@ impl Room {
 }
 
 /// `out` and the scratch of a refinement.
-struct Refining {
-    out: Output<i32>,
-    scratch: Output<i32>,
+pub(crate) struct Refining {
+    pub(crate) out: Output<i32>,
+    pub(crate) scratch: Output<i32>,
 }
 
 impl Refining {
-    fn new(room: Room) -> Self {
+    pub(crate) fn new(room: Room) -> Self {
         Refining {
             out: Output::over(room.out_len, room.junk),
             scratch: Output::over(room.scratch_len, room.junk),
@@ -178,7 +183,12 @@ impl Refining {
     }
 
     /// The refined net when accepted. The scratch numbers that are free are not looked at.
-    fn result(&self, refusal: u32, size: (usize, usize), k: usize) -> Result<Vec<i32>, u32> {
+    pub(crate) fn result(
+        &self,
+        refusal: u32,
+        size: (usize, usize),
+        k: usize,
+    ) -> Result<Vec<i32>, u32> {
         let scratch_len = count(refinement::scratch_len(size, k));
         let refined_len = count(refinement::refined_len(size, k));
         // Both are checked before a refusal is handed back.

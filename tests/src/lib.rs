@@ -2,13 +2,17 @@
 //!
 //! `oracle` writes the definitions down in exact rationals, `refinement` those of refinement,
 //! `multiresolution` those of split, merge and clean and `netfile` those of the net file,
-//! `kernel` calls the library with guarded memory, `call` asks both the same question, `order`
-//! puts several faults into a call. `record` alone says how many numbers a net has for a control
-//! point and for a vertex, and how many details there are for a vertex. A further subject of the
-//! library gets its own definitions in `oracle` or a module of its own, its own wrapper in
-//! `kernel` and a case of `call::Ask`.
+//! `kernel` calls the library with guarded memory, `call` asks both the same question, `safe` asks
+//! it of the crate `ups`, `order` puts several faults into a call, `random_calls` and `changes`
+//! change calls and files, `declarations` compares what the texts of the repository say of the
+//! library. `record` alone says how many numbers a net has for a control point and for a vertex,
+//! and how many details there are for a vertex. A further subject of the library gets its own
+//! definitions in `oracle` or a module of its own, its own wrappers in `kernel` and `safe` and a
+//! case of `call::Ask`.
 
 pub mod call;
+pub mod changes;
+pub mod declarations;
 pub mod kernel;
 pub mod multiresolution;
 pub mod netfile;
@@ -17,7 +21,8 @@ pub mod oracle;
 pub mod order;
 pub mod pages;
 pub mod random;
+pub mod random_calls;
 pub mod rational;
-mod raw;
 pub mod record;
 pub mod refinement;
+pub mod safe;

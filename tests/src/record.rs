@@ -1,4 +1,5 @@
-//! The numbers of a lent net and of lent details, declared once for the tests and the benchmark.
+//! The numbers of a lent net and of lent details as the oracle has them. It takes no length from
+//! the crate `ups`, whose own are held against these.
 
 /// Numbers of a control point: x, y, z.
 pub const POINT_RECORD: usize = 3;

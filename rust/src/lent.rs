@@ -1,0 +1,225 @@
+//! The calls on borrowed slices with lent outputs, for callers who allocate nothing.
+//!
+//! `net` begins with the numbers of a net of `w` by `h`. What stands behind them is neither read
+//! nor changed, and neither is what stands behind a result in its output. A refused call changes
+//! nothing. [`size`](crate::size) tells how long an output has to be.
+//!
+//! The errors of a call are given as constants of [`Refusal`], in the order in which the library
+//! looks for them.
+
+use crate::raw;
+use crate::size::RECORD;
+use crate::Refusal;
+
+/// The record of vertex (i, j), as that part of the net. Its numbers are not tested.
+///
+/// # Errors
+///
+/// `SIZE`, `PLACE`, `SHORT`.
+#[inline]
+pub fn vertex(net: &[i32], w: usize, h: usize, i: usize, j: usize) -> Result<&[i32], Refusal> {
+    Refusal::check(raw::vertex_refusal(net, w, h, i, j))?;
+    let record = net.chunks_exact(RECORD).nth(j * w + i);
+    record.ok_or(Refusal::SHORT)
+}
+
+/// The Bézier net of the down or of the up triangle of cell (i, j) into [`BEZIER`] numbers of
+/// `out`. They are 36 times x, y, z of 19 points: s1 s2 s3; u12 u13 u21 u23 u31 u32; v1 v2 v3;
+/// r12 r13 r23; m12 m13 m23; z.
+///
+/// # Errors
+///
+/// `SIZE`, `PLACE`, `SHORT`, `ROOM`, `RANGE`; the last of the triangle's nine control points alone.
+///
+/// [`BEZIER`]: crate::BEZIER
+#[inline]
+pub fn bezier_net(
+    net: &[i32],
+    w: usize,
+    h: usize,
+    i: usize,
+    j: usize,
+    down: bool,
+    out: &mut [i32],
+) -> Result<(), Refusal> {
+    let down = u32::from(down);
+    Refusal::check(raw::bezier_net(net, w, h, i, j, down, out))
+}
+
+/// x, y, z of the surface point at place (p, q) into [`POINT`] numbers of `out`, each coordinate
+/// rounded once to the nearest whole number, halves upwards.
+///
+/// # Errors
+///
+/// `SIZE`, `PLACE`, `SHORT`, `ROOM`, `RANGE`; the last of the nine control points of the place's
+/// triangle alone.
+///
+/// ```
+/// let mut net = [0; ups::net_numbers(2, 2)];
+/// net[2] = 120;
+/// let mut out = [0; ups::POINT];
+/// ups::lent::surface_point(&net, 2, 2, 0, 512, &mut out)?;
+/// assert_eq!(out, [0, 0, 30]);
+/// # Ok::<(), ups::Refusal>(())
+/// ```
+///
+/// [`POINT`]: crate::POINT
+#[inline]
+pub fn surface_point(
+    net: &[i32],
+    w: usize,
+    h: usize,
+    p: usize,
+    q: usize,
+    out: &mut [i32],
+) -> Result<(), Refusal> {
+    Refusal::check(raw::surface_point(net, w, h, p, q, out))
+}
+
+/// The surface point in millimetres: each coordinate as a double, divided by 1024.
+///
+/// # Errors
+///
+/// Those of [`surface_point`].
+#[inline]
+pub fn view_point(
+    net: &[i32],
+    w: usize,
+    h: usize,
+    p: usize,
+    q: usize,
+    out: &mut [f64],
+) -> Result<(), Refusal> {
+    Refusal::check(raw::view_point(net, w, h, p, q, out))
+}
+
+/// The file of the net into [`file_bytes`]`(w, h)` bytes of `out`. Gives the count of these bytes.
+///
+/// # Errors
+///
+/// `SIZE`, `SHORT`, `ROOM`, `RANGE`.
+///
+/// [`file_bytes`]: crate::file_bytes
+#[inline]
+pub fn write(net: &[i32], w: usize, h: usize, out: &mut [u8]) -> Result<usize, Refusal> {
+    let mut written = [0];
+    Refusal::check(raw::write(net, w, h, out, &mut written))?;
+    let [count] = written;
+    Ok(count as usize)
+}
+
+/// The net of a file into [`file_numbers`]`(file)` numbers of `net`. Gives its width and height.
+///
+/// # Errors
+///
+/// Word by word: for the width and then for the height `MISSING_WORD`, `WRONG_WORD`, `SIZE`; then
+/// `ROOM`; for each number `MISSING_WORD`, `WRONG_WORD`, `RANGE`; for the end word `MISSING_WORD`,
+/// `WRONG_WORD`; last `TRAILING`.
+///
+/// [`file_numbers`]: crate::file_numbers
+#[inline]
+pub fn read(file: &[u8], net: &mut [i32]) -> Result<(usize, usize), Refusal> {
+    let mut size = [0; 2];
+    Refusal::check(raw::read(file, net, &mut size))?;
+    let [w, h] = size;
+    Ok((w as usize, h as usize))
+}
+
+/// The net after k steps of refining, 0 to 6, into [`refined_numbers`]`(w, h, k)` numbers of
+/// `out`; with k = 0 a copy. `scratch` has [`scratch_numbers`]`(w, h, k)` numbers, which are free
+/// afterwards: they hold anything.
+///
+/// # Errors
+///
+/// `SIZE`, `DEPTH`, `SHORT`, `ROOM`, `RANGE`.
+///
+/// [`refined_numbers`]: crate::refined_numbers
+/// [`scratch_numbers`]: crate::scratch_numbers
+#[inline]
+pub fn refine(
+    net: &[i32],
+    w: usize,
+    h: usize,
+    k: usize,
+    out: &mut [i32],
+    scratch: &mut [i32],
+) -> Result<(), Refusal> {
+    Refusal::check(raw::refine(net, w, h, k, out, scratch))
+}
+
+/// The net after k steps as [`refine`] gives it, and the surface point at place (p, q) of the
+/// refined net into [`POINT`] numbers of `point`. This is the call of the promise to the cutter:
+/// in each coordinate the point is within (k + 1)/2 units of the exact spline of `net`, and
+/// between the least and the greatest of the nine control values of each triangle of `net` that
+/// holds the place.
+///
+/// # Errors
+///
+/// `SIZE`, `DEPTH`, `PLACE`, `SHORT`, `ROOM`, `RANGE`.
+///
+/// [`POINT`]: crate::POINT
+#[inline]
+pub fn refined_point(
+    net: &[i32],
+    w: usize,
+    h: usize,
+    k: usize,
+    p: usize,
+    q: usize,
+    out: &mut [i32],
+    scratch: &mut [i32],
+    point: &mut [i32],
+) -> Result<(), Refusal> {
+    let refusal = raw::refined_point(net, w, h, k, p, q, out, scratch, point);
+    Refusal::check(refusal)
+}
+
+/// The coarse net into [`coarse_numbers`]`(w, h)` numbers of `coarse`, and the details of the net
+/// into [`detail_numbers`]`(w, h)` numbers of `details`.
+///
+/// # Errors
+///
+/// `SIZE`, `EVEN`, `SHORT`, `ROOM`, `RANGE`, `RESULT`; the last of a coarse number.
+///
+/// [`coarse_numbers`]: crate::coarse_numbers
+/// [`detail_numbers`]: crate::detail_numbers
+#[inline]
+pub fn split(
+    net: &[i32],
+    w: usize,
+    h: usize,
+    coarse: &mut [i32],
+    details: &mut [i32],
+) -> Result<(), Refusal> {
+    Refusal::check(raw::split(net, w, h, coarse, details))
+}
+
+/// The net of which `coarse`, of `w` by `h`, is the coarse net and `details` are the details, into
+/// [`refined_numbers`]`(w, h, 1)` numbers of `out`.
+///
+/// # Errors
+///
+/// `SIZE`, `DEPTH`, `SHORT`, `ROOM`, `RANGE`, `RESULT`; the last of a number of the merged net.
+///
+/// [`refined_numbers`]: crate::refined_numbers
+#[inline]
+pub fn merge(
+    coarse: &[i32],
+    details: &[i32],
+    w: usize,
+    h: usize,
+    out: &mut [i32],
+) -> Result<(), Refusal> {
+    Refusal::check(raw::merge(coarse, details, w, h, out))
+}
+
+/// Sets each detail whose size is below the threshold `t` to 0; `w` and `h` are those of the net
+/// that was split.
+///
+/// # Errors
+///
+/// `SIZE`, `EVEN`, `THRESHOLD`, `SHORT`, `RANGE`.
+#[inline]
+pub fn clean(details: &mut [i32], w: usize, h: usize, t: u32) -> Result<(), Refusal> {
+    Refusal::check(raw::clean(details, w, h, t))
+}

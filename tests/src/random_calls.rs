@@ -1,0 +1,188 @@
+//! Calls on random nets, with all that they need, and changes of calls at random.
+
+use crate::call::{Ask, Call};
+use crate::multiresolution::DETAIL_LIMIT;
+use crate::nets::{self, Numbers, NUMBERS};
+use crate::oracle::LIMIT;
+use crate::random::Random;
+use crate::refinement;
+
+/// Sides, vertices, places, steps and thresholds, of which some are refused everywhere.
+const WILD: [usize; 9] = [0, 1, 2, 3, 7, 514, 1025, 1026, usize::MAX];
+/// Numbers beyond the range of nets, some beyond that of details too.
+const BEYOND: [i32; 4] = [LIMIT + 1, -DETAIL_LIMIT - 1, i32::MIN, i32::MAX];
+
+type Size = (usize, usize);
+
+fn random_net(random: &mut Random) -> (Vec<i32>, Size) {
+    let size = nets::random_size(random);
+    let numbers = random.pick(&NUMBERS);
+    (nets::random_net(random, size, numbers), size)
+}
+
+fn random_place(random: &mut Random, (w, h): Size) -> (usize, usize) {
+    let (last_p, last_q) = (1024 * (w - 1), 1024 * (h - 1));
+    (random.below(last_p + 1), random.below(last_q + 1))
+}
+
+pub fn vertex(random: &mut Random) -> Call {
+    let (net, size) = random_net(random);
+    let (i, j) = (random.below(size.0), random.below(size.1));
+    Call::new(&net, size, Ask::Vertex { i, j })
+}
+
+pub fn bezier(random: &mut Random) -> Call {
+    let (net, size) = random_net(random);
+    let (i, j) = (random.below(size.0 - 1), random.below(size.1 - 1));
+    let down = random.below(2) as u32;
+    Call::new(&net, size, Ask::Bezier { i, j, down })
+}
+
+pub fn surface(random: &mut Random) -> Call {
+    let (net, size) = random_net(random);
+    let (p, q) = random_place(random, size);
+    Call::new(&net, size, Ask::Surface { p, q })
+}
+
+pub fn view(random: &mut Random) -> Call {
+    let (net, size) = random_net(random);
+    let (p, q) = random_place(random, size);
+    Call::new(&net, size, Ask::View { p, q })
+}
+
+pub fn write(random: &mut Random) -> Call {
+    let (net, size) = random_net(random);
+    Call::new(&net, size, Ask::Write { written_len: 1 })
+}
+
+pub fn refine(random: &mut Random) -> Call {
+    let (net, size) = random_net(random);
+    Call::new(&net, size, Ask::refine(size, random.below(3)))
+}
+
+pub fn refined_point(random: &mut Random) -> Call {
+    let (net, size) = random_net(random);
+    let k = random.below(3);
+    let refined = refinement::refined_size(size, k).expect("a size");
+    let place = random_place(random, refined);
+    Call::new(&net, size, Ask::refined_point(size, k, place))
+}
+
+/// May be refused by 11.
+pub fn split(random: &mut Random) -> Call {
+    let size = nets::random_odd_size(random);
+    let numbers = random.pick(&[Numbers::Small, Numbers::Small, Numbers::Mixed]);
+    let net = nets::random_net(random, size, numbers);
+    Call::new(&net, size, Ask::split(size))
+}
+
+/// May be refused by 11.
+pub fn merge(random: &mut Random) -> Call {
+    let (coarse, size) = random_net(random);
+    let fine = refinement::refined_size(size, 1).expect("a size");
+    let most = random.pick(&[0, 50, LIMIT / 4]);
+    let details = nets::random_details(random, fine, most);
+    Call::merge(&coarse, &details, size)
+}
+
+pub fn clean(random: &mut Random) -> Call {
+    let size = nets::random_odd_size(random);
+    let most = random.pick(&[50, DETAIL_LIMIT]);
+    let details = nets::random_details(random, size, most);
+    let t = random.below(most as usize + 1) as u32;
+    Call::new(&details, size, Ask::Clean { t })
+}
+
+/// One change of a call, whatever it is by now.
+type Change = fn(&mut Random, &mut Call);
+
+const CHANGES: [Change; 8] = [
+    set_side,
+    set_argument,
+    cut,
+    lengthen,
+    spoil,
+    less_room,
+    more_room,
+    less_room_beside,
+];
+
+/// Makes one of the changes.
+pub fn change(random: &mut Random, call: &mut Call) {
+    random.pick(&CHANGES)(random, call);
+}
+
+fn set_side(random: &mut Random, call: &mut Call) {
+    let side = random.pick(&WILD);
+    match random.below(2) {
+        0 => call.w = side,
+        _ => call.h = side,
+    }
+}
+
+fn set_argument(random: &mut Random, call: &mut Call) {
+    let wild = random.pick(&WILD);
+    match &mut call.ask {
+        Ask::Vertex { i: a, j: b }
+        | Ask::Bezier { i: a, j: b, .. }
+        | Ask::Surface { p: a, q: b }
+        | Ask::View { p: a, q: b } => *[a, b][random.below(2)] = wild,
+        Ask::Refine { k, .. } => *k = wild,
+        Ask::RefinedPoint { k, p, q, .. } => *[k, p, q][random.below(3)] = wild,
+        Ask::Clean { t } => *t = wild as u32,
+        Ask::Write { .. } | Ask::Split { .. } | Ask::Merge => {}
+    }
+}
+
+/// The net or the details that are lent to be read.
+fn numbers<'a>(random: &mut Random, call: &'a mut Call) -> &'a mut Vec<i32> {
+    match (call.ask, random.below(2)) {
+        (Ask::Merge, 0) => &mut call.details,
+        _ => &mut call.net,
+    }
+}
+
+fn cut(random: &mut Random, call: &mut Call) {
+    let numbers = numbers(random, call);
+    let len = random.pick(&[numbers.len().saturating_sub(1), numbers.len() / 2, 0]);
+    numbers.truncate(len);
+}
+
+/// With numbers that no range has, since nothing behind the net is read.
+fn lengthen(random: &mut Random, call: &mut Call) {
+    let more = 1 + random.below(40);
+    let numbers = numbers(random, call);
+    numbers.resize(numbers.len() + more, i32::MIN);
+}
+
+fn spoil(random: &mut Random, call: &mut Call) {
+    let beyond = random.pick(&BEYOND);
+    let numbers = numbers(random, call);
+    if !numbers.is_empty() {
+        let at = random.below(numbers.len());
+        numbers[at] = beyond;
+    }
+}
+
+fn less_room(random: &mut Random, call: &mut Call) {
+    call.out_len = random.pick(&[call.out_len.saturating_sub(1), call.out_len / 2, 0]);
+}
+
+fn more_room(random: &mut Random, call: &mut Call) {
+    call.out_len += random.below(40);
+}
+
+/// Of the scratch, or of an output beside the first.
+fn less_room_beside(random: &mut Random, call: &mut Call) {
+    let len = match &mut call.ask {
+        Ask::Refine { scratch_len, .. } => scratch_len,
+        Ask::RefinedPoint {
+            scratch_len,
+            point_len,
+            ..
+        } => [scratch_len, point_len][random.below(2)],
+        Ask::Split { details_len } => details_len,
+        _ => return,
+    };
+    *len = len.saturating_sub(1);
+}
