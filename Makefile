@@ -12,7 +12,9 @@ LIBRARY = target/staticlib/libups.a
 lib: $(LIBRARY)
 
 $(LIBRARY): crates.txt $(shell find crates -name '*.rt' -o -name '*.antt')
-	rt staticlib ups
+	@echo "proving and building the library, which takes some minutes the first time"
+	@mkdir -p target
+	@rt staticlib ups >target/lib.log 2>&1 || { cat target/lib.log >&2; exit 1; }
 
 # library, header and pkg-config's file: make install PREFIX=path; DESTDIR is for packages, and ups.pc does not name it
 PREFIX ?= /usr/local

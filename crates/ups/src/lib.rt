@@ -1,5 +1,6 @@
-// The static library: the calls of document 01 for C and Rust. A slice is a pointer and then a length; 0 is accepted,
-// another number refuses. As in Rust, a slice that is lent to be written overlaps no other.
+// The static library: the calls of document 01 for C and Rust, which include/ups.h and rust/src/raw.rs declare. A slice
+// is a pointer and then a length; 0 is accepted, another number refuses. As in Rust, a slice that is lent to be written
+// overlaps no other.
 use bezier::BezierAnswer;
 use bezier::bezier_net;
 use details::CleanAnswer;
