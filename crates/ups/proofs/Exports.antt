@@ -10,6 +10,7 @@ use lib.Seq.{sets}
 use lib.Signed.{mag}
 use mir.Val.{toZ, ofZ}
 use mir.Syntax.{w32}
+use borrow.Author.Tests.{ltb-false}
 use Rattle.exact.specs.Filling.{over}
 use Rattle.exact.proofs.FillingLaws.{sets-over, take-over}
 use Rattle.exact.proofs.SignedCode.{reads-back}
@@ -20,9 +21,10 @@ use Rattle.triangles.specs.Refusals.{triangleBeyond}
 use Rattle.bezier.specs.BezierNet.{bezierNumbers}
 use Rattle.bezier.specs.Answers.{bezierOutput}
 use Rattle.bezier.specs.Refusals.{noTriangle, bezierRefusal}
+use Rattle.surface.proofs.SurfacePoints.{point-fits}
 use Rattle.refine.proofs.CallLaws.{Left}
 use Rattle.refined_points.specs.DemandThree.{Claimed}
-use Rattle.ups.specs.Exports.{bezierExport}
+use Rattle.ups.specs.Exports.{bezierExport, pointExport}
 
 -- a test that is joined by one that fails
 or-false : (a : Bool) {b : Bool} → b ≡ false → a ≡ (a || b)
@@ -55,6 +57,10 @@ bezier-outcome net w h i j down out e k q = (
   k ∙ bezier-export net w h i j down (length out) e,
   q ∙ ap (λ (m : ℕ). outputAfter m (bezierNumbers net w (triangleAt i j (eqb down 1))) out) (sym k),
 )
+
+-- there is room for a point where nothing is refused
+pub point-room : (net : List ℤ) (w h p q room : ℕ) → pointExport net w h p q room ≡ 0 → 3 ≤ room
+point-room net w h p q room none = ltb-false room 3 (point-fits net w h p q (ltb room 3) none)
 
 -- three coordinates, out of the bits that hold them, over the front of an output
 pub stored-point : (x y z : ℤ) (out : List ℤ) {after : List ℤ} → mag x < 2 ^ 31 → mag y < 2 ^ 31 → mag z < 2 ^ 31 →

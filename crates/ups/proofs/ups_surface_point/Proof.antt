@@ -7,14 +7,12 @@ use lib.Dec.{lit<}
 use lib.IntN.{ℤ}
 use lib.ListN.{length}
 use borrow.Author.Needs.{needs}
-use borrow.Author.Tests.{ltb-false}
 use Rattle.net.specs.Refusals.{accepted}
 use Rattle.net.proofs.Faults.{answered}
 use Rattle.surface.specs.Answers.{pointOutcome}
 use Rattle.surface.specs.SurfacePoint.{surfacePoint}
-use Rattle.surface.proofs.SurfacePoints.{point-fits}
 use Rattle.ups.specs.Exports.{pointExport}
-use Rattle.ups.proofs.Exports.{stored-point, point-exported, point-refused}
+use Rattle.ups.proofs.Exports.{point-room, stored-point, point-exported, point-refused}
 use Rattle.ups.proofs.ups_surface_point.Statement.{statement}
 use Rattle.ups.proofs.ups_surface_point.Tie as tie
 
@@ -37,12 +35,6 @@ module _ (c : tie.After-surface-point-with) where
       _≡_ {A = ℕ × List ℤ} (n, l) (refusal, cond (accepted refusal) point [])
   outcome e = sym e ∙ c .surface-point-with .ensures
 
-  -- there is room for the point where nothing is refused
-  room : refusal ≡ 0 → 3 ≤ length out
-  room none =
-      ltb-false (length out) 3
-      (point-fits (start .args .net .now) (start .args .w) (start .args .h) (start .args .p) (start .args .q) _ none)
-
 -- of an answer with a point
 module _ (c : tie.After-answer) where
   abbrev call : tie.After-surface-point-with
@@ -53,7 +45,10 @@ module _ (c : tie.After-answer) where
   answer = outcome call (ap pointOutcome (c .answer .given .1))
 
   fits : 3 ≤ length (out call)
-  fits = room call (answered (refusal call) (point call) answer .0)
+  fits =
+      let a = start call .args in
+      point-room (a .net .now) (a .w) (a .h) (a .p) (a .q) (length (out call))
+      (answered (refusal call) (point call) answer .0)
 
 surface-point-with-requires : tie.Need-surface-point-with-requires
 surface-point-with-requires c κs = search needs

@@ -7,13 +7,11 @@ use lib.Dec.{lit<}
 use lib.Ieee.{Float}
 use lib.ListN.{length}
 use borrow.Author.Needs.{needs}
-use borrow.Author.Tests.{ltb-false}
 use Rattle.net.specs.Refusals.{accepted}
 use Rattle.net.proofs.Faults.{answered}
 use Rattle.surface.specs.Answers.{viewOutcome, viewPoint}
-use Rattle.surface.proofs.SurfacePoints.{point-fits}
 use Rattle.ups.specs.Exports.{pointExport}
-use Rattle.ups.proofs.Exports.{point-exported, point-refused}
+use Rattle.ups.proofs.Exports.{point-room, point-exported, point-refused}
 use Rattle.ups.proofs.ups_view_point.Statement.{statement}
 use Rattle.ups.proofs.ups_view_point.Tie as tie
 
@@ -36,12 +34,6 @@ module _ (c : tie.After-view-point-with) where
       _≡_ {A = ℕ × List Float} (n, l) (refusal, cond (accepted refusal) point [])
   outcome e = sym e ∙ c .view-point-with .ensures
 
-  -- there is room for the point where nothing is refused
-  room : refusal ≡ 0 → 3 ≤ length out
-  room none =
-      ltb-false (length out) 3
-      (point-fits (start .args .net .now) (start .args .w) (start .args .h) (start .args .p) (start .args .q) _ none)
-
 -- of an answer with a point
 module _ (c : tie.After-answer) where
   abbrev call : tie.After-view-point-with
@@ -52,7 +44,10 @@ module _ (c : tie.After-answer) where
   answer = outcome call (ap viewOutcome (c .answer .given .1))
 
   fits : 3 ≤ length (out call)
-  fits = room call (answered (refusal call) (point call) answer .0)
+  fits =
+      let a = start call .args in
+      point-room (a .net .now) (a .w) (a .h) (a .p) (a .q) (length (out call))
+      (answered (refusal call) (point call) answer .0)
 
 view-point-with-requires : tie.Need-view-point-with-requires
 view-point-with-requires c κs = search needs
