@@ -4,8 +4,6 @@
 #include <stdlib.h>
 #include <ups.h>
 
-enum { EDGE = 1024 }; /* a place counts 1,024ths of an edge */
-
 static void fail(const char *what) {
     perror(what);
     exit(2);
@@ -39,7 +37,7 @@ static void list(const int32_t *net, size_t net_len, size_t w, size_t h) {
     for (size_t n = 0; n < w * h; n++) {
         size_t i = n % w, j = n / w;
         /* no place at a vertex of an accepted net is refused */
-        if (ups_surface_point(net, net_len, w, h, EDGE * i, EDGE * j, at, UPS_POINT) == UPS_ACCEPTED) {
+        if (ups_surface_point(net, net_len, w, h, UPS_EDGE * i, UPS_EDGE * j, at, UPS_POINT) == UPS_ACCEPTED) {
             printf("%zu %zu %ld %ld %ld\n", i, j, (long)at[0], (long)at[1], (long)at[2]);
         }
     }

@@ -1,17 +1,18 @@
 /* ups: uniform Powell-Sabin surfaces on a triangular grid. A net of control triangles is a spline surface. The library
  * gives its Bezier nets and surface points, refines it, splits it into a coarse net and details, cleans details and
  * merges both again, and writes and reads the net file. Its functions are proved to meet their contracts; the static
- * inline ones of this header are tested against them.
+ * inline ones of this header are tested against them. The formulas and the net file are in docs/REFERENCE.md. For C99
+ * or later, and C++.
  *
  * Slices. A slice x is a pointer x, then its length x_len in elements. A slice of length 0 may have a null pointer. A
  * slice that is written overlaps no other slice of the same call; slices that are only read may overlap.
  *
  * Answers. Every call answers UPS_ACCEPTED, or the number of its first fault in the order that its comment gives. After
- * a refusal nothing that was lent has changed. No call has a precondition beside valid slices.
+ * a refusal nothing that was lent has changed. No call has a precondition except valid slices.
  *
- * Memory. A longer slice than the lengths in a comment is accepted: numbers beyond those that count are neither read
- * nor changed, and nothing after a result changes. No call needs an initialisation, a heap or global state; calls may
- * run on several threads at once, each with its own outputs.
+ * Memory. Nets, details and outputs may be longer than the lengths in a comment: numbers beyond those that count are
+ * neither read nor changed, and nothing after a result changes. No call needs an initialisation, a heap or global
+ * state; calls may run on several threads at once, each with its own outputs.
  *
  * Nets. Width w and height h count vertices; vertex (i, j) has column i and row j. Each has a control triangle c1, c2,
  * c3, each x, y, z, in units of 1/1024 mm, from -16,777,216 to 16,777,216. A net stores the vertices row by row, c1 to
@@ -19,8 +20,8 @@
  * from -33,554,432 to 33,554,432.
  *
  * Grid. Cell (i, j) has an up triangle with the corners (i, j), (i+1, j), (i, j+1), and a down triangle with the
- * corners (i+1, j), (i, j+1), (i+1, j+1). A place (p, q) counts 1,024ths of an edge, p up to 1024(w-1) and q up to
- * 1024(h-1). Values are rounded to the nearest whole number, halves upwards. */
+ * corners (i+1, j), (i, j+1), (i+1, j+1). A place (p, q) counts 1,024ths of an edge, UPS_EDGE, p up to 1024(w-1) and q
+ * up to 1024(h-1). Values are rounded to the nearest whole number, halves upwards. */
 #ifndef UPS_H
 #define UPS_H
 
@@ -37,6 +38,9 @@ extern "C" {
 #define UPS_POINT 3
 #define UPS_BEZIER 57
 #define UPS_FILE_WORDS 9
+
+/* Parts of an edge that a place counts. */
+#define UPS_EDGE 1024
 
 /* A side of a net counts from UPS_LEAST_SIDE to UPS_GREATEST_SIDE vertices; k steps are at most UPS_GREATEST_DEPTH. */
 #define UPS_LEAST_SIDE 2
@@ -80,7 +84,7 @@ static inline const char *ups_refusal_text(uint32_t refusal) {
 }
 
 /* Sizes, before memory is lent. Each is 0 where the library refuses the sides or the steps anyway, so that nothing
- * overflows, whatever is asked: the call then says why, and reads and writes nothing. */
+ * overflows, whatever is asked: the call then says why and writes nothing. */
 
 /* A side after k steps of refining: (side - 1) times 2 to the power k, plus 1. */
 static inline size_t ups_side_after(size_t side, size_t k) {
@@ -170,8 +174,8 @@ uint32_t ups_view_point(const int32_t *net, size_t net_len, size_t w, size_t h, 
 /* The net after k steps of refining, of ups_side_after(w, k) by ups_side_after(h, k). With k = 0 it is a copy.
  * Refuses: UPS_SIZE, UPS_DEPTH, UPS_SHORT, UPS_ROOM (of out or scratch), UPS_RANGE.
  * Lengths: net ups_net_numbers(w, h), out ups_refined_numbers(w, h, k), scratch ups_scratch_numbers(w, h, k).
- * Writes: the first ups_refined_numbers(w, h, k) numbers of out. What the first ups_scratch_numbers(w, h, k) numbers of
- * scratch are afterwards is not promised. */
+ * Writes: the first ups_refined_numbers(w, h, k) numbers of out. Where accepted, the first ups_scratch_numbers(w, h, k)
+ * numbers of scratch may be anything afterwards. */
 uint32_t ups_refine(const int32_t *net, size_t net_len, size_t w, size_t h, size_t k,
                     int32_t *out, size_t out_len, int32_t *scratch, size_t scratch_len);
 
@@ -190,7 +194,7 @@ uint32_t ups_refined_point(const int32_t *net, size_t net_len, size_t w, size_t 
  * the coarse net. The details of vertices with even column and row are 0. Merging both gives the net again.
  * Refuses: UPS_SIZE, UPS_EVEN, UPS_SHORT, UPS_ROOM (of either output), UPS_RANGE, UPS_RESULT (of the coarse net).
  * Lengths: net ups_net_numbers(w, h), coarse ups_coarse_numbers(w, h), details ups_detail_numbers(w, h).
- * Writes: the first numbers of coarse and of details, so many as their lengths above. */
+ * Writes: the first numbers of coarse and of details, as many as the lengths above. */
 uint32_t ups_split(const int32_t *net, size_t net_len, size_t w, size_t h,
                    int32_t *coarse, size_t coarse_len, int32_t *details, size_t details_len);
 
@@ -203,8 +207,8 @@ uint32_t ups_split(const int32_t *net, size_t net_len, size_t w, size_t h,
 uint32_t ups_merge(const int32_t *coarse, size_t coarse_len, const int32_t *details, size_t details_len,
                    size_t w, size_t h, int32_t *out, size_t out_len);
 
-/* Sets each detail of size below t to 0; w and h are the fine net's. With t above 0, merging cleaned details moves no
- * number of the net by t or more.
+/* Sets each detail of size below t to 0; w and h are the fine net's. Merging the details of a split, cleaned once with
+ * t above 0, moves no number of the net by t or more.
  * Refuses: UPS_SIZE, UPS_EVEN, UPS_THRESHOLD, UPS_SHORT, UPS_RANGE.
  * Lengths: details ups_detail_numbers(w, h).
  * Writes: those of the first ups_detail_numbers(w, h) details that are of size below t. */

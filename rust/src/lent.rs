@@ -1,8 +1,8 @@
 //! The calls on borrowed slices with lent outputs, for callers who allocate nothing.
 //!
-//! `net` begins with the numbers of a net of `w` by `h`. What stands behind them is neither read
-//! nor changed, and neither is what stands behind a result in its output. A refused call changes
-//! nothing. [`size`](crate::size) tells how long an output has to be.
+//! `net` begins with the numbers of a net of `w` by `h`. What follows them is neither read nor
+//! changed, and neither is what follows a result in its output. A refused call changes nothing.
+//! [`size`](crate::size) tells how long an output has to be.
 //!
 //! The errors of a call are given as constants of [`Refusal`], in the order in which the library
 //! looks for them.
@@ -23,9 +23,9 @@ pub fn vertex(net: &[i32], w: usize, h: usize, i: usize, j: usize) -> Result<&[i
     record.ok_or(Refusal::SHORT)
 }
 
-/// The Bézier net of the down or of the up triangle of cell (i, j) into [`BEZIER`] numbers of
-/// `out`. They are 36 times x, y, z of 19 points: s1 s2 s3; u12 u13 u21 u23 u31 u32; v1 v2 v3;
-/// r12 r13 r23; m12 m13 m23; z.
+/// The Bézier net of the down triangle of cell (i, j) where `down`, else of the up triangle, into
+/// [`BEZIER`] numbers of `out`. They are 36 times x, y, z of 19 points: s1 s2 s3; u12 u13 u21 u23
+/// u31 u32; v1 v2 v3; r12 r13 r23; m12 m13 m23; z.
 ///
 /// # Errors
 ///
@@ -126,8 +126,8 @@ pub fn read(file: &[u8], net: &mut [i32]) -> Result<(usize, usize), Refusal> {
 }
 
 /// The net after k steps of refining, 0 to 6, into [`refined_numbers`]`(w, h, k)` numbers of
-/// `out`; with k = 0 a copy. `scratch` has [`scratch_numbers`]`(w, h, k)` numbers, which are free
-/// afterwards: they hold anything.
+/// `out`; with k = 0 a copy. `scratch` has [`scratch_numbers`]`(w, h, k)` numbers, which may hold
+/// anything afterwards.
 ///
 /// # Errors
 ///
@@ -194,13 +194,15 @@ pub fn split(
     Refusal::check(raw::split(net, w, h, coarse, details))
 }
 
-/// The net of which `coarse`, of `w` by `h`, is the coarse net and `details` are the details, into
-/// [`refined_numbers`]`(w, h, 1)` numbers of `out`.
+/// One refinement of `coarse`, a net of `w` by `h`, plus `details`, of which there are
+/// [`detail_numbers`]`(side_after(w, 1), side_after(h, 1))`, into [`refined_numbers`]`(w, h, 1)`
+/// numbers of `out`.
 ///
 /// # Errors
 ///
 /// `SIZE`, `DEPTH`, `SHORT`, `ROOM`, `RANGE`, `RESULT`; the last of a number of the merged net.
 ///
+/// [`detail_numbers`]: crate::detail_numbers
 /// [`refined_numbers`]: crate::refined_numbers
 #[inline]
 pub fn merge(

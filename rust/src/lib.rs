@@ -7,7 +7,7 @@
 //! - [`Refusal`] is the error of every call. A refused call changes nothing that was lent to it.
 //! - [`raw`] declares the library's functions and has all `unsafe` code.
 //!
-//! Every function can be called with any arguments; none panics.
+//! Outside [`raw`], every function can be called with any arguments; none panics.
 //!
 //! ```
 //! let mut numbers = [0; ups::net_numbers(2, 2)];
@@ -56,6 +56,7 @@ pub use net::Net;
 pub use refusal::Refusal;
 pub use size::{
     coarse_numbers, coarse_side, detail_numbers, file_bytes, file_numbers, net_numbers,
-    refined_numbers, scratch_numbers, side_after, BEZIER, DETAIL_RECORD, FILE_WORDS, POINT, RECORD,
+    refined_numbers, scratch_numbers, side_after, BEZIER, DETAIL_RECORD, EDGE, FILE_WORDS,
+    GREATEST_DEPTH, GREATEST_SIDE, LEAST_SIDE, POINT, RECORD,
 };
 pub use split::Split;

@@ -48,7 +48,7 @@ impl Net {
         refined(numbers, w, h, 0)
     }
 
-    /// The net of a file.
+    /// The net of a file. Memory is taken for the size that the file states.
     ///
     /// # Errors
     ///
@@ -67,7 +67,7 @@ impl Net {
     ///
     /// # Errors
     ///
-    /// None: what makes a net makes one that can be written.
+    /// None: every `Net` can be written.
     pub fn to_file(&self) -> Result<Vec<u8>, Refusal> {
         let mut file = vec![0; file_bytes(self.width, self.height)];
         lent::write(&self.numbers, self.width, self.height, &mut file)?;
@@ -103,8 +103,8 @@ impl Net {
         lent::vertex(&self.numbers, self.width, self.height, i, j)
     }
 
-    /// The Bézier net of the down or of the up triangle of cell (i, j), in the order of
-    /// [`lent::bezier_net`].
+    /// The Bézier net of the down triangle of cell (i, j) where `down`, else of the up triangle, in
+    /// the order of [`lent::bezier_net`].
     ///
     /// # Errors
     ///

@@ -11,33 +11,34 @@ use std::fmt;
 /// assert_eq!(refusal.number(), 1);
 /// assert_eq!(refusal.to_string(), "a side of the net is below 2 or above 1,025");
 /// ```
-#[derive(Clone, Copy, Debug, PartialEq, Eq, Hash)]
+#[derive(Clone, Copy, PartialEq, Eq, Hash)]
 pub struct Refusal(u32);
 
 impl Refusal {
-    /// 1, for instance of a net of 1 by 2.
+    /// 1: a side is below 2 or above 1,025, as in a net of 1 by 2.
     pub const SIZE: Refusal = Refusal(1);
-    /// 2, for instance of a net of 2 by 2 with 35 numbers.
+    /// 2: there are too few numbers, as 35 for a net of 2 by 2.
     pub const SHORT: Refusal = Refusal(2);
-    /// 3, for instance of an x of 16,777,217.
+    /// 3: a number lies outside its range, as an x of 16,777,217.
     pub const RANGE: Refusal = Refusal(3);
-    /// 4, for instance of a net of 18 by 2 and 6 steps.
+    /// 4: there are too many steps, as 7, or 6 for a net of 18 by 2.
     pub const DEPTH: Refusal = Refusal(4);
-    /// 5, for instance of the file of a net of 2 by 2 and an output of 155 bytes.
+    /// 5: an output or scratch is too short, as 155 bytes for the file of a net of 2 by 2.
     pub const ROOM: Refusal = Refusal(5);
-    /// 6, for instance of a p of 1,025 where the net is 2 wide.
+    /// 6: there is no such vertex, triangle or place, as a p of 1,025 in a net 2 wide.
     pub const PLACE: Refusal = Refusal(6);
-    /// 7, for instance of an empty file.
+    /// 7: the file ends where a word is due, as an empty file.
     pub const MISSING_WORD: Refusal = Refusal(7);
-    /// 8, for instance of a file that begins with its height.
+    /// 8: another word was due, as in a file that begins with its height.
     pub const WRONG_WORD: Refusal = Refusal(8);
-    /// 9, for instance of the file of a net of 2 by 2 with 157 bytes.
+    /// 9: bytes follow the end word, as the 157th of a file of a net of 2 by 2.
     pub const TRAILING: Refusal = Refusal(9);
-    /// 10, for instance of a net of 4 by 3 that is split.
+    /// 10: a side is even in split or clean, as in a net of 4 by 3.
     pub const EVEN: Refusal = Refusal(10);
-    /// 11, for instance of a coarse 16,777,216 with a detail of 1.
+    /// 11: a coarse or a merged number leaves the net range, as where a coarse net is 16,777,216
+    /// throughout and a detail is 1.
     pub const RESULT: Refusal = Refusal(11);
-    /// 12, for instance of a threshold of 33,554,433.
+    /// 12: the threshold is too great, as 33,554,433.
     pub const THRESHOLD: Refusal = Refusal(12);
 
     /// What an answer of a function of [`raw`](crate::raw) says: 0 is accepted.
@@ -72,6 +73,13 @@ impl fmt::Display for Refusal {
             Refusal::THRESHOLD => "the threshold is above 33,554,432",
             _ => "not a refusal of this library",
         })
+    }
+}
+
+// With the sentence, since a `main` that hands an error back prints it so.
+impl fmt::Debug for Refusal {
+    fn fmt(&self, to: &mut fmt::Formatter) -> fmt::Result {
+        write!(to, "refusal {}, {self}", self.0)
     }
 }
 

@@ -17,9 +17,16 @@ pub const BEZIER: usize = 57;
 /// Words of a vertex in a file.
 pub const FILE_WORDS: usize = 9;
 
-const LEAST_SIDE: usize = 2;
-const MOST_SIDE: usize = 1025;
-const MOST_STEPS: usize = 6;
+/// Parts of an edge that a place counts.
+pub const EDGE: usize = 1024;
+
+/// The least count of vertices of a side.
+pub const LEAST_SIDE: usize = 2;
+/// The greatest count of vertices of a side.
+pub const GREATEST_SIDE: usize = 1025;
+/// The greatest count of steps of refining.
+pub const GREATEST_DEPTH: usize = 6;
+
 /// Words of a file that are of no vertex: width, height, end.
 const OTHER_WORDS: usize = 3;
 /// Bytes of a word.
@@ -28,7 +35,7 @@ const WORD: usize = 4;
 const PAYLOAD: u32 = 0x0fff_ffff;
 
 const fn is_side(side: usize) -> bool {
-    LEAST_SIDE <= side && side <= MOST_SIDE
+    LEAST_SIDE <= side && side <= GREATEST_SIDE
 }
 
 /// 0 where a side is out of range.
@@ -58,7 +65,7 @@ pub const fn net_numbers(w: usize, h: usize) -> usize {
 /// assert_eq!(ups::side_after(18, 6), 0);
 /// ```
 pub const fn side_after(side: usize, k: usize) -> usize {
-    if !is_side(side) || k > MOST_STEPS {
+    if !is_side(side) || k > GREATEST_DEPTH {
         return 0;
     }
     let after = ((side - 1) << k) + 1;

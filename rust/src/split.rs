@@ -5,8 +5,8 @@ use crate::net::room_after;
 use crate::size::{detail_numbers, side_after};
 use crate::{Net, Refusal};
 
-/// A coarse net together with details, which are as many as one refinement of the coarse net has
-/// vertices for, all of them in range.
+/// A coarse net together with details, [`DETAIL_RECORD`](crate::DETAIL_RECORD) for each vertex of
+/// one refinement of it, all in range.
 ///
 /// ```
 /// let mut numbers = [0; ups::net_numbers(3, 3)];
@@ -55,8 +55,8 @@ impl Split {
         &self.details
     }
 
-    /// Sets each detail whose size is below the threshold `t` to 0. Of a net that was split, with
-    /// `t` above 0, no number of the merged net is then `t` or more from the net's.
+    /// Sets each detail whose size is below the threshold `t` to 0. Where a net was split and
+    /// cleaned once, with `t` above 0, no number of the merged net is `t` or more from the net's.
     ///
     /// # Errors
     ///

@@ -56,7 +56,7 @@ static void check_file_sizes(size_t w, size_t h) {
 /* The last place of the refined net tells each refined side by itself. */
 static void check_refined_sides(const int32_t *net, size_t w, size_t h, size_t k) {
     size_t n = ups_net_numbers(w, h), refined = ups_refined_numbers(w, h, k), rest = ups_scratch_numbers(w, h, k);
-    size_t p = 1024 * (ups_side_after(w, k) - 1), q = 1024 * (ups_side_after(h, k) - 1);
+    size_t p = UPS_EDGE * (ups_side_after(w, k) - 1), q = UPS_EDGE * (ups_side_after(h, k) - 1);
     int32_t *out = numbers(refined), *scratch = numbers(rest), at[UPS_POINT];
     check(ups_refined_point(net, n, w, h, k, p, q, out, refined, scratch, rest, at, UPS_POINT) == UPS_ACCEPTED,
           "the last place");

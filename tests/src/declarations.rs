@@ -101,6 +101,7 @@ pub fn differences(texts: &Texts) -> Vec<Difference> {
     compare_readme(&mut report, &exports, texts.of(README));
     compare_reference(&mut report, &exports, texts.of(REFERENCE));
     compare_records(&mut report, texts);
+    compare_constants(&mut report, texts);
     refusals::compare(&mut report, texts.of(HEADER), texts.of(REFUSALS));
     compare_versions(&mut report, texts);
     report.0
@@ -218,6 +219,28 @@ fn compare_records(report: &mut Report, texts: &Texts) {
                 Some(found) if found == due => {}
                 Some(found) => report.add(file, name, format!("is {found}, {stride} is {due}")),
             }
+        }
+    }
+}
+
+/// The ends of the names of the other constants that the header and the Rust crate share.
+const CONSTANTS: [&str; 7] = [
+    "POINT",
+    "BEZIER",
+    "FILE_WORDS",
+    "EDGE",
+    "LEAST_SIDE",
+    "GREATEST_SIDE",
+    "GREATEST_DEPTH",
+];
+
+fn compare_constants(report: &mut Report, texts: &Texts) {
+    for name in CONSTANTS {
+        let due = parse::defined(texts.of(HEADER), &format!("UPS_{name}"));
+        let found = parse::constant(texts.of(SIZES), name);
+        if due.is_none() || found != due {
+            let what = format!("is {found:?}, that of {HEADER} is {due:?}");
+            report.add(SIZES, name, what);
         }
     }
 }

@@ -235,6 +235,18 @@ fn a_changed_record_is_found() {
 }
 
 #[test]
+fn a_changed_constant_is_found() {
+    for (file, from, to) in [
+        (HEADER, "UPS_EDGE 1024", "UPS_EDGE 512"),
+        (HEADER, "#define UPS_EDGE 1024", ""),
+        (SIZES, "EDGE: usize = 1024", "EDGE: usize = 512"),
+        (SIZES, "pub const EDGE: usize = 1024;", ""),
+    ] {
+        expect(&changed(file, from, to), &[SIZES], "EDGE", "that of ");
+    }
+}
+
+#[test]
 fn a_changed_refusal_is_found() {
     for file in [HEADER, REFUSALS] {
         let texts = changed(file, "is beyond its range", "is out of range");

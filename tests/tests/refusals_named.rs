@@ -64,6 +64,10 @@ fn numbers_and_sentences() {
         assert_eq!(Refusal::check(number), Err(refusal));
         assert_eq!(refusal.number(), number);
         assert_eq!(refusal.to_string(), sentence);
+        assert_eq!(
+            format!("{refusal:?}"),
+            format!("refusal {number}, {sentence}")
+        );
         let error: Box<dyn Error> = refusal.into();
         assert_eq!(error.to_string(), sentence);
     }

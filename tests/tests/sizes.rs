@@ -5,6 +5,7 @@ use ups::{coarse_numbers, coarse_side, detail_numbers, file_bytes, file_numbers,
 use ups::{lent, Refusal};
 use ups::{refined_numbers, scratch_numbers, side_after};
 use ups::{BEZIER, DETAIL_RECORD, FILE_WORDS, POINT, RECORD};
+use ups::{EDGE, GREATEST_DEPTH, GREATEST_SIDE, LEAST_SIDE};
 use ups_tests::multiresolution;
 use ups_tests::netfile::{self, HEIGHT, POINT_WORDS, WIDTH};
 use ups_tests::oracle::{Faults, BEZIER_NUMBERS, POINT_NUMBERS};
@@ -52,6 +53,8 @@ fn records() {
     assert_eq!(DETAIL_RECORD, record::DETAIL_RECORD);
     assert_eq!((POINT, BEZIER), (POINT_NUMBERS, BEZIER_NUMBERS));
     assert_eq!(FILE_WORDS, 3 * POINT_WORDS);
+    assert_eq!((EDGE, LEAST_SIDE), (1024, 2));
+    assert_eq!((GREATEST_SIDE, GREATEST_DEPTH), (1025, 6));
 }
 
 #[test]
