@@ -4,10 +4,9 @@ use mathlib.Core.Bool.{Bool, true, false, cond}
 use mathlib.Core.List.{List, [], _∷_, map}
 use Prim.Native.Nat.{ℕ}
 use lib.IntN.{ℤ, pos, negsuc}
-use lib.ListN.{replicate}
 use lib.Ieee.{Float, fin, binary64, ofInt, div}
 use Rattle.exact.specs.Rounding.{rounded, floorQuotient}
-use Rattle.net.specs.Net.{numbers, controlPoint, controlTriangle}
+use Rattle.net.specs.Net.{numbers, controlPoint, controlTriangle, squares}
 use Rattle.net.specs.Refusals.{accepted}
 use Rattle.spline.specs.Spline.{spline}
 use Rattle.surface.specs.SurfacePoint.{coordinate, surfacePoint}
@@ -56,8 +55,8 @@ viewAnswerWith net w h p q short = (
 unfoldable pub viewAnswer : List ℤ → ℕ → ℕ → ℕ → ℕ → ℕ × List Float
 viewAnswer net w h p q = viewAnswerWith net w h p q false
 
--- worked cases: 1,536 units are 1.5 mm, and -1 is -2 to the power -10 mm; outcomes of answers; of a net of 5s, an
--- accepted place, a refused one and an output that is too short
+-- worked cases: 1,536 units are 1.5 mm, and -1 is -2 to the power -10 mm; outcomes of answers; of the net of 3 by 2
+-- whose numbers are the squares, an accepted place, a refused one and an output that is too short
 millimetres-of : (millimetres (pos 1536) ≡ fin false 3 (negsuc 0)) × (millimetres (negsuc 0) ≡ fin true 1 (negsuc 9))
 unfolding div ofInt
 millimetres-of = (refl, refl)
@@ -73,15 +72,15 @@ viewed :
     ≡ (0, millimetres (pos 1) ∷ millimetres (pos 2) ∷ millimetres (pos 3) ∷ [])
 viewed = refl
 
-abbrev fives : List ℤ
-fives = replicate (numbers 2 2) (pos 5)
+abbrev net32 : List ℤ
+net32 = squares (numbers 3 2)
 
 answers :
-    (pointAnswer fives 2 2 1024 0 ≡ (0, pos 5 ∷ pos 5 ∷ pos 5 ∷ []))
-    × (pointAnswer fives 2 2 1025 0 ≡ (6, []))
-    × (viewAnswer fives 2 2 1024 0 ≡ (0, map millimetres (pos 5 ∷ pos 5 ∷ pos 5 ∷ [])))
-    × (viewAnswer fives 2 2 1025 0 ≡ (6, []))
-    × (pointAnswerWith fives 2 2 1024 0 true ≡ (5, []))
-    × (viewAnswerWith fives 2 2 1024 0 true ≡ (5, []))
+    (pointAnswer net32 3 2 1500 300 ≡ (0, pos 701 ∷ pos 751 ∷ pos 803 ∷ []))
+    × (pointAnswer net32 3 2 300 1500 ≡ (6, []))
+    × (viewAnswer net32 3 2 1500 300 ≡ (0, map millimetres (pos 701 ∷ pos 751 ∷ pos 803 ∷ [])))
+    × (viewAnswer net32 3 2 300 1500 ≡ (6, []))
+    × (pointAnswerWith net32 3 2 1500 300 true ≡ (5, []))
+    × (viewAnswerWith net32 3 2 1500 300 true ≡ (5, []))
 unfolding pointAnswer viewAnswer coordinate spline rounded floorQuotient controlTriangle controlPoint
 answers = (refl, refl, refl, refl, refl, refl)

@@ -3,7 +3,8 @@ use mathlib.Core.Path.{_≡_, refl}
 use mathlib.Core.Bool.{Bool, true, false}
 use mathlib.Core.List.{List, [], _∷_}
 use Prim.Native.Nat.{ℕ, _-_}
-use lib.IntN.{ℤ}
+use lib.IntN.{ℤ, pos}
+use lib.ListN.{replicate, set}
 use Rattle.net.specs.Net.{numbers}
 use Rattle.net.specs.Refusals.{firstFault, badSize, shortNet, zeros, tooLarge, tooFew}
 use Rattle.places.specs.Places.{chosen}
@@ -44,6 +45,19 @@ order :
     × (pointRefusal (tooLarge 9) 2 2 1024 0 ≡ 3)
     × (pointRefusal zeros 2 2 1024 0 ≡ 0)
 order = (refl, refl, refl, refl, refl)
+
+-- of a net of 3 by 2, whose sides tell p from q: the last places and places past them; a number of vertex (2, 0) beyond
+-- the range counts in cell (1, 0) and not in cell (0, 0)
+abbrev beyondAt20 : List ℤ
+beyondAt20 = set (replicate (numbers 3 2) (pos 0)) (numbers 1 2) (pos 16777217)
+
+of-3-by-2 :
+    (pointRefusal beyondAt20 3 2 2048 1025 ≡ 6)
+    × (pointRefusal beyondAt20 3 2 1025 2048 ≡ 6)
+    × (pointRefusal beyondAt20 3 2 2048 1024 ≡ 3)
+    × (pointRefusal beyondAt20 3 2 1500 300 ≡ 3)
+    × (pointRefusal beyondAt20 3 2 300 1000 ≡ 0)
+of-3-by-2 = (refl, refl, refl, refl, refl)
 
 on-the-diagonal :
     (pointRefusal (tooLarge 0) 2 2 512 512 ≡ 3)

@@ -56,6 +56,9 @@ readSize file = fileWidth file ∷ fileHeight file ∷ []
 
 -- ---- worked cases: every fault at once, and then without the one that was found, to none
 
+abbrev net32 : List ℤ
+net32 = squares (numbers 3 2)
+
 bezier-order :
     (bezierExport tooFew 1026 2 0 0 2 56 ≡ 1)
     × (bezierExport tooFew 2 2 0 0 2 56 ≡ 6)
@@ -76,6 +79,18 @@ point-order :
     × (pointExport (tooLarge (numbers 2 2 - 1)) 2 2 1024 1024 3 ≡ 3)
     × (pointExport zeros 2 2 1024 1024 3 ≡ 0)
 point-order = (refl, refl, refl, refl, refl, refl)
+
+-- of the net of 3 by 2 whose numbers are the squares, whose sides tell columns from rows: the last triangle, the last
+-- place, the last place after no step, and the same with columns and rows exchanged
+columns-and-rows :
+    (bezierExport net32 3 2 1 0 1 57 ≡ 0)
+    × (bezierExport net32 3 2 0 1 1 57 ≡ 6)
+    × (pointExport net32 3 2 2048 1024 3 ≡ 0)
+    × (pointExport net32 3 2 1024 2048 3 ≡ 6)
+    × (refinedPointExport net32 3 2 0 2048 1024 net32 [] (pos 7 ∷ pos 7 ∷ pos 7 ∷ []) ≡ 0)
+    × (refinedPointExport net32 3 2 0 1024 2048 net32 [] (pos 7 ∷ pos 7 ∷ pos 7 ∷ []) ≡ 6)
+unfolding netBeyond
+columns-and-rows = (refl, refl, refl, refl, refl, refl)
 
 -- of k = 0, which needs no scratch: a point with room for two numbers and for three, and an output that is too short
 refined-point-room :
