@@ -11,12 +11,12 @@ use lib.IntN.{ℤ}
 use Rattle.exact.specs.Rounding.{rounded}
 use Rattle.exact.proofs.WeightedSumLaws.{all-in-range}
 use Rattle.exact.proofs.RoundingLaws.{mean-range}
-use Rattle.net.specs.Net.{Index, one, two, three, Vertex, vertexAt, Triangle, triangleAt, corner, Field}
+use Rattle.net.specs.Net.{Index, one, two, three, Vertex, vertexAt, Triangle, triangleAt, OfNet, corner, Field}
 use Rattle.places.specs.Places.{chosen}
 use Rattle.places.proofs.Cells.{chosen-lies}
 use Rattle.triangles.specs.BezierPoints.{controlsOf, controlList}
 use Rattle.spline.specs.Spline.{spline}
-use Rattle.spline.specs.Shares.{OfNet, sharesIn, controlWeights}
+use Rattle.spline.specs.Shares.{sharesIn, controlWeights}
 use Rattle.spline.proofs.ControlWeights.{shares-total, weights-not-negative}
 use Rattle.spline.proofs.Located.{Located, acrossBy, upBy, located}
 use Rattle.spline.proofs.AnyTriangle.{chosen-of-net, spline-by-shares}

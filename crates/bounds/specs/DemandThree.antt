@@ -9,12 +9,11 @@ use lib.Dec.{lit≤}
 use lib.IntN.{ℤ, pos, negsuc, natAbs, _-ℤ_, _*ℤ_}
 use lib.Signed.{_≤ℤ_, leZ, leZ-yes}
 use Rattle.exact.specs.Rounding.{rounded}
-use Rattle.net.specs.Net.{Triangle, triangleAt, Field, controlPoint, controlTriangle, field, squares}
+use Rattle.net.specs.Net.{Triangle, triangleAt, OfNet, Field, controlPoint, controlTriangle, field, squares}
 use Rattle.net.specs.Refusals.{AcceptedNet}
 use Rattle.places.specs.Places.{OnGrid, LiesIn}
 use Rattle.triangles.specs.BezierPoints.{controlsOf, controlList}
 use Rattle.spline.specs.Spline.{spline}
-use Rattle.spline.specs.Shares.{OfNet}
 use Rattle.subdivision.specs.Refinement.{refinements, sideAfter}
 
 -- 'the least and the greatest of the nine control values'

@@ -9,11 +9,10 @@ use lib.Dec.{lit≤}
 use lib.Signed.{_≤ℤ_}
 use Rattle.exact.specs.Rounding.{rounded}
 use Rattle.exact.specs.WeightedSum.{weightedSum}
-use Rattle.net.specs.Net.{Index, Vertex, vertexAt, Triangle, triangleAt, corner, Field, field}
+use Rattle.net.specs.Net.{Index, Vertex, vertexAt, Triangle, triangleAt, OfNet, corner, Field, field}
 use Rattle.net.specs.Refusals.{AcceptedNet}
 use Rattle.places.specs.Places.{OnGrid, LiesIn}
 use Rattle.spline.specs.Spline.{spline}
-use Rattle.spline.specs.Shares.{OfNet}
 use Rattle.subdivision.specs.Refinement.{Kind, steps, refinements, sideAfter}
 use Rattle.subdivision.specs.WeightTable.{Table, kindNumber, weightsAt, passes, six, exactBy, refinedBy}
 

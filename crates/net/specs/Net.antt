@@ -2,7 +2,9 @@
 use mathlib.Core.Path.{_≡_, refl}
 use mathlib.Core.Bool.{Bool, true, false}
 use mathlib.Core.List.{List, [], _∷_, _++_}
-use Prim.Native.Nat.{ℕ, zero, suc, _+_, _*_, _/_, _%_}
+use Prim.Native.Nat.{ℕ, zero, suc, _+_, _*_, _/_, _%_, _≤_}
+use native.Mathlib.Omega.{arith}
+use lib.Dec.{lit≤}
 use lib.ListN.{getD, take, drop}
 use lib.IntN.{ℤ, pos, negsuc, _+ℤ_}
 use Rattle.exact.specs.Filling.{runs}
@@ -79,6 +81,10 @@ pub record Triangle : Type 0 where
 
 abbrev pub triangleAt : ℕ → ℕ → Bool → Triangle
 triangleAt i j down = record { down = down; column = i; row = j }
+
+-- 'Cell (i, j), with i at most w-2 and j at most h-2': a triangle of a net of width w and height h, both at least 2
+abbrev pub OfNet : ℕ → ℕ → Triangle → Type 0
+OfNet w h t = (t .column + 2 ≤ w) × (t .row + 2 ≤ h)
 
 -- the corners of the up triangle of cell (i, j), in document 01's order, and of the down triangle
 abbrev pub upCorner : ℕ → ℕ → Index → Vertex
@@ -165,10 +171,10 @@ abbrev pub squares : ℕ → List ℤ
 squares zero = []
 squares (suc n) = squares n ++ pos (n * n) ∷ []
 
--- the steps add up to zero; the triangles of cell (3, 5); a net of 4 by 3 has 108 numbers, and vertex (1, 2) of it
--- begins at number 81; in a grid of 3 by 2 with two numbers a vertex, its column and its row, vertex (2, 1) begins at
--- number 10 and is vertex 5; of a net of width 2, vertex (0, 1) has the numbers 18 to 26, and y of its control 2 is
--- number 22
+-- the steps add up to zero; the triangles of cell (3, 5); the last triangle of a net of 3 by 2, one above it and one
+-- beside it; a net of 4 by 3 has 108 numbers, and vertex (1, 2) of it begins at number 81; in a grid of 3 by 2 with two
+-- numbers a vertex, its column and its row, vertex (2, 1) begins at number 10 and is vertex 5; of a net of width 2,
+-- vertex (0, 1) has the numbers 18 to 26, and y of its control 2 is number 22
 steps-close :
     (stepColumn one +ℤ stepColumn two +ℤ stepColumn three ≡ pos 0)
     × (stepRow one +ℤ stepRow two +ℤ stepRow three ≡ pos 0)
@@ -185,6 +191,9 @@ down-corners :
     × (corner (triangleAt 3 5 true) two ≡ vertexAt 3 6)
     × (corner (triangleAt 3 5 true) three ≡ vertexAt 4 6)
 down-corners = (refl, refl, refl)
+
+last-triangle : OfNet 3 2 (triangleAt 1 0 true) × (OfNet 3 2 (triangleAt 0 1 true) → ⊥) × (OfNet 3 2 (triangleAt 2 0 true) → ⊥)
+last-triangle = ((lit≤ tt, lit≤ tt), (λ o. omega (arith, o .1)), (λ o. omega (arith, o .0)))
 
 four-by-three : (numbers 4 3 ≡ 108) × (start 4 (vertexAt 1 2) ≡ 81)
 four-by-three = (refl, refl)

@@ -3,11 +3,10 @@ use mathlib.Core.Path.{_≡_, refl, subst, _∙_}
 use mathlib.Core.List.{List}
 use Prim.Native.Nat.{ℕ}
 use lib.IntN.{ℤ}
-use Rattle.exact.specs.Filling.{over}
+use Rattle.exact.specs.Filling.{over, UnchangedFrom}
 use Rattle.net.specs.Refusals.{outputAfter}
 use Rattle.net.proofs.Faults.{when-accepted, when-refused}
 use Rattle.steps.specs.RefinedNet.{scratchNeed}
-use Rattle.steps.specs.Steps.{UnchangedFrom}
 use Rattle.refine.specs.Answers.{freeScratch}
 
 -- what stands in the output and in the scratch

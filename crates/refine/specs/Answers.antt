@@ -5,10 +5,9 @@ use mathlib.Core.List.{List, [], _∷_, _++_}
 use Prim.Native.Nat.{ℕ}
 use lib.IntN.{ℤ, pos}
 use lib.ListN.{length, replicate}
-use Rattle.exact.specs.Filling.{over, runs}
+use Rattle.exact.specs.Filling.{over, runs, UnchangedFrom}
 use Rattle.net.specs.Net.{numbers, controlPoint, controlTriangle, grid, squares}
 use Rattle.net.specs.Refusals.{netBeyond, accepted, outputAfter}
-use Rattle.steps.specs.Steps.{UnchangedFrom}
 use Rattle.steps.specs.RefinedNet.{stored, refinedNet, scratchNeed}
 use Rattle.refine.specs.Refusals.{tooShort, refineRefusal}
 use Rattle.refine.specs.declared.answers.RefineAnswer.{RefineAnswer}

@@ -4,9 +4,9 @@ use mathlib.Core.Bool.{Bool}
 use mathlib.Core.List.{List}
 use Prim.Native.Nat.{ℕ}
 use lib.IntN.{ℤ}
+use Rattle.exact.specs.Filling.{UnchangedFrom}
 use Rattle.net.specs.Refusals.{outputAfter}
 use Rattle.steps.specs.RefinedNet.{refinedNet}
-use Rattle.steps.specs.Steps.{UnchangedFrom}
 use Rattle.refine.specs.Answers.{freeScratch}
 use Rattle.refined_points.specs.Answers.{refusalAt, refinedPointAnswer}
 use Rattle.refined_points.specs.DemandThree.{Claimed}

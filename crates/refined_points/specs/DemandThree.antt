@@ -6,9 +6,8 @@ use mathlib.Core.List.{List}
 use Prim.Native.Nat.{ℕ, _<_}
 use lib.IntN.{ℤ}
 use lib.ListN.{length}
-use Rattle.net.specs.Net.{Triangle, field, number}
+use Rattle.net.specs.Net.{Triangle, OfNet, field, number}
 use Rattle.places.specs.Places.{OnGrid, LiesIn}
-use Rattle.spline.specs.Shares.{OfNet}
 use Rattle.surface.specs.Answers.{pointAnswer}
 use Rattle.subdivision.specs.Refinement.{sideAfter}
 use Rattle.bounds.specs.DemandThree.{fineEdge, NearSpline, WithinControls}

@@ -11,14 +11,14 @@ use native.Mathlib.Omega.{arith}
 use lib.IntN.{ℤ, pos, _+ℤ_, _-ℤ_, _*ℤ_, +ℤ-idr, zero-*ℤ}
 use Rattle.exact.specs.WeightedSum.{weightedSum}
 use Rattle.exact.proofs.Expressions.{Expr, var, lit, _⊕_, _⊖_, _⊗_, identity}
-use Rattle.net.specs.Net.{Index, one, two, three, next, vertexAt, Triangle, triangleAt, Field}
+use Rattle.net.specs.Net.{Index, one, two, three, next, vertexAt, Triangle, triangleAt, OfNet, Field}
 use Rattle.places.specs.Places.{o123, OnGrid, rest, isDown, upShare, downShare, chosen, share, orderOf}
 use Rattle.places.proofs.Orders.{Sorted, in-order}
 use Rattle.places.proofs.Cells.{chosen-lies}
 use Rattle.triangles.specs.BezierPoints.{Controls, controlsOf, controlList, indexK}
 use Rattle.triangles.proofs.CornerForm.{inForm, summed}
 use Rattle.spline.specs.Spline.{spline}
-use Rattle.spline.specs.Shares.{OfNet, sharesBy, sharesIn, vertexShare, square, controlWeights}
+use Rattle.spline.specs.Shares.{sharesBy, sharesIn, vertexShare, square, controlWeights}
 use Rattle.spline.specs.Promises.{AnyTriangle, SplineByWeights, WeightsTotal}
 use Rattle.spline.proofs.ControlWeights.{nine, squareE, byShares, bySharesE, other-way, by-shares, shares-total, value-by-weights}
 use Rattle.spline.proofs.GridSums.{gridSum, sum-cell}

@@ -5,11 +5,11 @@ use Prim.Native.Nat.{ℕ, _*_, _<_}
 use lib.IntN.{pos}
 use lib.Signed.{_≤ℤ_}
 use Rattle.exact.specs.WeightedSum.{weightedSum, total}
-use Rattle.net.specs.Net.{Index, Triangle, Field}
+use Rattle.net.specs.Net.{Index, Triangle, OfNet, Field}
 use Rattle.places.specs.Places.{LiesIn, Order}
 use Rattle.triangles.specs.BezierPoints.{controlsOf, controlList}
 use Rattle.spline.specs.Spline.{valueIn, spline}
-use Rattle.spline.specs.Shares.{OfNet, sharesIn, Descending, weightOf, controlWeights}
+use Rattle.spline.specs.Shares.{sharesIn, Descending, weightOf, controlWeights}
 
 -- in every triangle that a place lies in, and under every order of equal shares, document 01's formula gives the same
 -- value (`any-triangle`)

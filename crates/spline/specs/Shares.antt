@@ -4,15 +4,10 @@ use mathlib.Core.Path.{_≡_, refl}
 use mathlib.Core.Bool.{Bool, true, false, cond}
 use mathlib.Core.List.{List, [], _∷_, map}
 use Prim.Native.Nat.{ℕ, _+_, _-_, _*_, _≤_, max}
-use lib.Dec.{lit≤}
 use lib.IntN.{ℤ, pos, _-ℤ_, _*ℤ_}
 use Rattle.net.specs.Net.{Index, one, next, previous, Vertex, vertexAt, Triangle, triangleAt, same}
 use Rattle.places.specs.Places.{Order, cornerP, cornerQ, cornerT, upShare, downShare}
 use Rattle.triangles.specs.BezierPoints.{indexK, indexM, controlList}
-
--- 'Cell (i, j), with i at most w-2 and j at most h-2': a triangle of a net of width w and height h, both at least 2
-abbrev pub OfNet : ℕ → ℕ → Triangle → Type 0
-OfNet w h t = (t .column + 2 ≤ w) × (t .row + 2 ≤ h)
 
 -- the shares of the corners of a triangle at place (p, q) that lies in it, at edge count D: as document 01 has them,
 -- with f = p - Di and g = q - Dj
@@ -60,12 +55,9 @@ weightOf down a P l =
 abbrev pub controlWeights : Bool → (Index → ℕ) → List ℤ
 controlWeights down a = controlList (weightOf down a)
 
--- worked cases: the last triangle of a net of 3 by 2 is of the net; place (700, 600) lies in the down triangle of
--- cell (0, 0) with shares 424, 324 and 276, and (1, 1) is the vertex with share 276; a vertex has 12·D² for each of
--- its own controls; in the middle of a triangle each corner has 72, 36 and 0 for ck, cn and cm, of 36·3²
-last-triangle : OfNet 3 2 (triangleAt 1 0 true)
-last-triangle = (lit≤ tt, lit≤ tt)
-
+-- worked cases: place (700, 600) lies in the down triangle of cell (0, 0) with shares 424, 324 and 276, and (1, 1) is
+-- the vertex with share 276; a vertex has 12·D² for each of its own controls; in the middle of a triangle each corner
+-- has 72, 36 and 0 for ck, cn and cm, of 36·3²
 shares-of-a-place :
     (sharesIn 1024 700 600 (triangleAt 0 0 true) one ≡ 424)
     × (vertexShare 1024 700 600 (vertexAt 1 1) ≡ 276)

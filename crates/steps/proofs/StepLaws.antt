@@ -10,14 +10,14 @@ use lib.IntN.{ℤ}
 use lib.ListN.{length, take, drop}
 use lib.Seq.{drop-drop}
 use borrow.Author.Tests.{le-ltb}
-use Rattle.exact.specs.Filling.{over}
+use Rattle.exact.specs.Filling.{over, UnchangedFrom}
 use Rattle.exact.proofs.FillingLaws.{length-over, drop-over}
 use Rattle.net.specs.Net.{numbers}
 use Rattle.net.proofs.Faults.{cond-false}
 use Rattle.subdivision.specs.Refinement.{sideAfter}
 use Rattle.subdivision.proofs.SameSpline.{side-at-least}
 use Rattle.steps.specs.RefinedNet.{refinedNet, numbersAfter, scratchNeed}
-use Rattle.steps.specs.Steps.{UnchangedFrom, Depth, StepReady}
+use Rattle.steps.specs.Steps.{Depth, StepReady}
 use Rattle.steps.proofs.Sides.{side-before, side-last, wide-ready, high-ready, shallower}
 use Rattle.steps.proofs.StoredNets.{refined-length, no-step, step-more}
 

@@ -1,19 +1,14 @@
 -- The preconditions of the steps, which callers establish by their refusals, and how a control triangle is stored.
-use mathlib.Core.Path.{_≡_, refl, ap}
+use mathlib.Core.Path.{_≡_, refl}
 use mathlib.Core.List.{List, [], _∷_}
 use Prim.Native.Nat.{ℕ, _*_, _+_, _≤_}
-use native.Mathlib.Omega.{arith}
-use lib.IntN.{ℤ, pos, natAbs}
-use lib.ListN.{length, drop, getD, replicate}
+use lib.IntN.{ℤ, pos}
+use lib.ListN.{length, getD, replicate}
 use lib.Dec.{lit≤}
 use lib.Seq.{sets}
 use Rattle.net.specs.Net.{numbers, pointStride}
 use Rattle.subdivision.specs.Refinement.{sideAfter}
 use Rattle.steps.specs.RefinedNet.{numbersAfter}
-
--- 'the rest unchanged': a slice that has changed in its first n numbers alone
-abbrev pub UnchangedFrom : ℕ → List ℤ → List ℤ → Type 0
-UnchangedFrom n before after = (length after ≡ length before) × (drop n after ≡ drop n before)
 
 -- a size and a number of steps that 1 and 4 do not refuse
 pub record Depth (w h k : ℕ) : Type 0 where
@@ -41,14 +36,3 @@ nine-of-ten :
     ((pos 1 ∷ pos 2 ∷ pos 3 ∷ []) ∷ (pos 4 ∷ pos 5 ∷ pos 6 ∷ []) ∷ (pos 7 ∷ pos 8 ∷ pos 9 ∷ []) ∷ [])
     ≡ pos 1 ∷ pos 2 ∷ pos 3 ∷ pos 4 ∷ pos 5 ∷ pos 6 ∷ pos 7 ∷ pos 8 ∷ pos 9 ∷ pos 0 ∷ []
 nine-of-ten = refl
-
--- of five numbers the first two have changed, and so not the first alone; and a slice stays as long as it was
-unchanged-from : UnchangedFrom 2 (pos 1 ∷ pos 2 ∷ pos 3 ∷ pos 4 ∷ pos 5 ∷ [])
-    (pos 9 ∷ pos 9 ∷ pos 3 ∷ pos 4 ∷ pos 5 ∷ [])
-unchanged-from = (refl, refl)
-
-changed-further : UnchangedFrom 1 (pos 1 ∷ pos 2 ∷ []) (pos 9 ∷ pos 8 ∷ []) → ⊥
-changed-further e = omega (arith, ap (λ (l : List ℤ). natAbs (getD l 0 (pos 0))) (e .1))
-
-shortened : UnchangedFrom 2 (pos 1 ∷ pos 2 ∷ []) (pos 1 ∷ []) → ⊥
-shortened e = omega (arith, e .0)

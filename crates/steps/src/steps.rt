@@ -10,11 +10,11 @@ ghost use mathlib.Core.Path.{_≡_};
 ghost use Prim.Native.Nat.{_-_, _*_, _≤_, _<_};
 ghost use lib.ListN.{length};
 ghost use lib.Seq.{sets};
-ghost use Rattle.exact.specs.Filling.{over};
+ghost use Rattle.exact.specs.Filling.{over, UnchangedFrom};
 ghost use Rattle.net.specs.Net.{numbers, stride};
 ghost use Rattle.subdivision.specs.Refinement.{refinedSide, sideAfter};
 ghost use Rattle.steps.specs.RefinedNet.{refinedFields, rowRun, refinedNet, numbersAfter, scratchNeed};
-ghost use Rattle.steps.specs.Steps.{UnchangedFrom, Depth, StepReady};
+ghost use Rattle.steps.specs.Steps.{Depth, StepReady};
 
 // Row j of the refined grid.
 fn refine_row(net: &[i32], w: usize, h: usize, j: usize, out: &mut [i32])

@@ -6,10 +6,9 @@ use Prim.Native.Nat.{ℕ, _+_, _-_, _*_, _/_, _≤_}
 use native.Mathlib.Decide.{decLe}
 use native.Mathlib.Omega.{arith}
 use borrow.Author.Tests.{lt-ltb, le-ltb, ltb-true, ltb-false}
-use Rattle.net.specs.Net.{Index, one, two, three, Vertex, vertexAt, Triangle, triangleAt, corner, isNext, same}
+use Rattle.net.specs.Net.{Index, one, two, three, Vertex, vertexAt, Triangle, triangleAt, OfNet, corner, isNext, same}
 use Rattle.triangles.specs.BezierPoints.{indexK}
 use Rattle.triangles.proofs.Corners.{back, stays}
-use Rattle.spline.specs.Shares.{OfNet}
 use Rattle.spline.proofs.Located.{Located, acrossBy, upBy}
 use Rattle.subdivision.specs.Refinement.{Kind, kept, along, isOdd, kindBy, kindOf, beginBy, endBy, beginOf, endOf, refinedSide}
 use Rattle.subdivision.specs.Promises.{ComesFrom, VerticesComeFrom}

@@ -9,13 +9,13 @@ use lib.IntN.{ℤ, pos, _*ℤ_}
 use Rattle.exact.specs.WeightedSum.{weightedSum}
 use Rattle.exact.proofs.Integers.{one-times}
 use Rattle.exact.proofs.Expressions.{Expr, var, lit, _⊕_, _⊗_, value, identity}
-use Rattle.net.specs.Net.{Index, one, two, three, Triangle, triangleAt, corner, Field, same}
+use Rattle.net.specs.Net.{Index, one, two, three, Triangle, triangleAt, OfNet, corner, Field, same}
 use Rattle.places.specs.Places.{o123, OnGrid, chosen}
 use Rattle.places.proofs.Cells.{chosen-lies}
 use Rattle.triangles.specs.BezierPoints.{Controls, controlsOf, controlList}
 use Rattle.triangles.proofs.CornerForm.{inForm, summed}
 use Rattle.spline.specs.Spline.{spline}
-use Rattle.spline.specs.Shares.{OfNet, sharesIn, square, controlWeights}
+use Rattle.spline.specs.Shares.{sharesIn, square, controlWeights}
 use Rattle.spline.proofs.ControlWeights.{nine, squareE, byShares, bySharesE, by-shares}
 use Rattle.spline.proofs.Located.{Located, located}
 use Rattle.spline.proofs.AnyTriangle.{environment, chosen-of-net, spline-by-shares}

@@ -1,0 +1,2 @@
+-- The definitions that contracts cite: places on the door.
+pub mod Door

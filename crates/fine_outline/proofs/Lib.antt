@@ -1,0 +1,1 @@
+-- Laws of parents and fine outlines.

@@ -1,0 +1,1 @@
+// The outline of a refined net.

@@ -1,0 +1,1 @@
+-- Laws of walks, of reaching and of links.

@@ -1,0 +1,1 @@
+// Walks and connected sets of numbers.

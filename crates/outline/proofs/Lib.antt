@@ -1,0 +1,2 @@
+-- Laws of outlines.
+pub mod ByteLaws

@@ -1,0 +1,48 @@
+// The bytes of an outline: how many there are, and the tests of their count and of their values.
+ghost use mathlib.Core.Path.{_≡_};
+ghost use mathlib.Core.Bool.{false};
+ghost use Prim.Native.Nat.{_≤_};
+ghost use lib.ListN.{length};
+ghost use Rattle.net.specs.Refusals.{badSize};
+ghost use Rattle.outline.specs.Outline.{triangles};
+ghost use Rattle.outline.specs.Refusals.{shortOutline, anyAboveOne, badByte};
+
+// How many triangles a net of an accepted size has. For the crates above; they test the size first.
+pub fn count_triangles(w: usize, h: usize) -> usize
+    requires { ⌜ badSize w h ≡ false ⌝ }
+    ensures { λ r. ⌜ r ≡ triangles w h ⌝ }
+{
+    2 * ((w - 1) * (h - 1))
+}
+
+// Whether an outline has fewer bytes than the net has triangles.
+pub fn short_outline(outline: &[u8], w: usize, h: usize) -> bool
+    requires { ⌜ badSize w h ≡ false ⌝ }
+    ensures { λ r. ⌜ r ≡ shortOutline (now (outline .entry)) w h ⌝ }
+{
+    outline.len() < count_triangles(w, h)
+}
+
+// Whether one of the bytes is above 1. No early return, so that many bytes are tested at a time.
+fn any_above_one(bytes: &[u8]) -> bool
+    ensures { λ r. ⌜ r ≡ anyAboveOne (now (bytes .entry)) ⌝ }
+{
+    let mut bad = false;
+    let mut i = 0;
+    while i < bytes.len() {
+        let b = bytes[i];
+        bad = bad | (1 < b);
+        i += 1;
+    }
+    bad
+}
+
+// Whether one of the net's bytes is. For the crates above, which have refused every other size and every outline that
+// is too short.
+pub fn bad_byte(outline: &[u8], w: usize, h: usize) -> bool
+    requires { ⌜ (badSize w h ≡ false) × (triangles w h ≤ length (now outline)) ⌝ }
+    ensures { λ r. ⌜ r ≡ badByte (now (outline .entry)) w h ⌝ }
+{
+    let n = count_triangles(w, h);
+    any_above_one(&outline[..n])
+}
