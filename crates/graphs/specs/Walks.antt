@@ -12,7 +12,7 @@ pub data Walk {A : Type 0} (Edge : A → A → Type 0) (t : A) : A → Type 0 wh
 abbrev pub ConnectedBy : {A : Type 0} → (A → Type 0) → (A → A → Type 0) → Type 0
 ConnectedBy {A} In Edge = ((t : A) × In t) × ((t u : A) → In t → In u → Walk Edge t u)
 
--- b is true exactly where it holds, so b is determined (`judged-once` in proofs/Walks.antt)
+-- b is true exactly where it holds, so b is determined (`judged-once` in proofs/WalkLaws.antt)
 pub record Judged (holds : Type 0) (b : Bool) : Type 0 where
   pub yes : b ≡ true → holds
   pub no : b ≡ false → holds → ⊥

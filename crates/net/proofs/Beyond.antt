@@ -31,8 +31,8 @@ module _ {ℓ} {A : Type ℓ} where
 
 -- ---- the net's length, its vertices and its fields
 
--- whether a list is shorter than n, of its first n numbers
-pub short-cut : (l : List ℤ) (n : ℕ) → ltb (length l) n ≡ ltb (length (take n l)) n
+-- whether a list is shorter than n, of its first n elements
+pub short-cut {ℓ} : {A : Type ℓ} (l : List A) (n : ℕ) → ltb (length l) n ≡ ltb (length (take n l)) n
 short-cut l n = by (ltb (length l) n) refl
   where
     by : (b : Bool) → ltb (length l) n ≡ b → ltb (length l) n ≡ ltb (length (take n l)) n

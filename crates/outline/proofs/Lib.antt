@@ -1,2 +1,7 @@
 -- Laws of outlines.
 pub mod ByteLaws
+pub mod Numbers
+pub mod Edges
+pub mod Connected
+pub mod CutOutlines
+pub mod Searching

@@ -1,4 +1,7 @@
--- The definitions that contracts cite: the layout of an outline, connected triangles, the refusals, and the answers.
+-- The definitions that contracts cite: the layout of an outline, connected triangles, the refusals, the answers, and
+-- what is promised of them.
 pub mod Outline
 pub mod Connected
 pub mod Refusals
+pub mod Answers
+pub mod Promises

@@ -4,9 +4,11 @@ use mathlib.Core.Bool.{Bool, true, false, _||_, not, cond}
 use mathlib.Core.List.{List, [], _∷_, _++_}
 use Prim.Native.Nat.{ℕ}
 use lib.Dec.{ltb}
+use lib.IntN.{ℤ}
 use lib.ListN.{length, take}
 use Rattle.exact.specs.Filling.{runs}
-use Rattle.net.specs.Refusals.{Fault, firstFault, accepted, badSize}
+use Rattle.net.specs.Net.{numbers, squares}
+use Rattle.net.specs.Refusals.{Fault, firstFault, accepted, badSize, shortNet}
 use Rattle.graphs.specs.Reaching.{reached, allReached}
 use Rattle.outline.specs.Outline.{triangles}
 use Rattle.outline.specs.Connected.{connected}
@@ -22,6 +24,11 @@ anyAboveOne (b ∷ bytes) = ltb 1 b || anyAboveOne bytes
 
 unfoldable pub badByte : List ℕ → ℕ → ℕ → Bool
 badByte outline w h = anyAboveOne (take (triangles w h) outline)
+
+-- of a net with its outline: 2 where either is too short, and 13
+abbrev pub outlinedFaults : List ℤ → ℕ → ℕ → List ℕ → List Fault
+outlinedFaults net w h outline =
+    (shortNet net w h || shortOutline outline w h, 2) ∷ (badByte outline w h, 13) ∷ []
 
 -- 14: 'no triangle present or not hanging together'
 abbrev pub disconnected : List ℕ → ℕ → ℕ → Bool
@@ -46,7 +53,7 @@ abbrev pub freeSearch : List Fault → ℕ → ℕ → ℕ
 freeSearch before w h = cond (accepted (firstFault before)) (triangles w h) 0
 
 -- worked cases: every fault at once, and then without the one that was found, to none; bytes past the last triangle;
--- the search that is free after 14, when accepted, and after 5
+-- an outline and a net that are too short, and a byte of 2; the search that is free after 14, when accepted, and after 5
 order :
     (checkRefusal [] 1026 2 3 ≡ 1)
     × (checkRefusal (1 ∷ 0 ∷ 2 ∷ []) 3 2 3 ≡ 2)
@@ -56,6 +63,14 @@ order :
     × (checkRefusal (1 ∷ 1 ∷ 1 ∷ 1 ∷ 2 ∷ []) 3 2 4 ≡ 0)
 unfolding badByte connected reached allReached runs
 order = (refl, refl, refl, refl, refl, refl)
+
+with-a-net :
+    (firstFault (outlinedFaults (squares (numbers 3 2)) 3 2 (0 ∷ 1 ∷ 1 ∷ 1 ∷ 2 ∷ [])) ≡ 0)
+    × (firstFault (outlinedFaults (squares (numbers 3 2)) 3 2 (0 ∷ 1 ∷ 1 ∷ [])) ≡ 2)
+    × (firstFault (outlinedFaults (squares 53) 3 2 (0 ∷ 1 ∷ 1 ∷ 2 ∷ [])) ≡ 2)
+    × (firstFault (outlinedFaults (squares (numbers 3 2)) 3 2 (0 ∷ 1 ∷ 1 ∷ 2 ∷ [])) ≡ 13)
+unfolding badByte
+with-a-net = (refl, refl, refl, refl)
 
 free :
     (freeSearch (checkFaults (1 ∷ 0 ∷ 0 ∷ 1 ∷ []) 3 2 4) 3 2 ≡ 4)

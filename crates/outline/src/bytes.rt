@@ -1,11 +1,12 @@
 // The bytes of an outline: how many there are, and the tests of their count and of their values.
+use net::short_net;
 ghost use mathlib.Core.Path.{_≡_};
 ghost use mathlib.Core.Bool.{false};
 ghost use Prim.Native.Nat.{_≤_};
 ghost use lib.ListN.{length};
-ghost use Rattle.net.specs.Refusals.{badSize};
+ghost use Rattle.net.specs.Refusals.{firstFault, badSize};
 ghost use Rattle.outline.specs.Outline.{triangles};
-ghost use Rattle.outline.specs.Refusals.{shortOutline, anyAboveOne, badByte};
+ghost use Rattle.outline.specs.Refusals.{shortOutline, anyAboveOne, badByte, outlinedFaults};
 
 // How many triangles a net of an accepted size has. For the crates above; they test the size first.
 pub fn count_triangles(w: usize, h: usize) -> usize
@@ -45,4 +46,21 @@ pub fn bad_byte(outline: &[u8], w: usize, h: usize) -> bool
 {
     let n = count_triangles(w, h);
     any_above_one(&outline[..n])
+}
+
+// The first of 2 and 13 of a net with its outline, or 0. For the crates above; they test the size first.
+pub fn outlined_refusal(net: &[i32], w: usize, h: usize, outline: &[u8]) -> u32
+    requires { ⌜ badSize w h ≡ false ⌝ }
+    ensures { λ r. ⌜ r ≡ firstFault (outlinedFaults (now (net .entry)) w h (now (outline .entry))) ⌝ }
+{
+    if short_net(net, w, h) {
+        return 2;
+    }
+    if short_outline(outline, w, h) {
+        return 2;
+    }
+    if bad_byte(outline, w, h) {
+        return 13;
+    }
+    0
 }

@@ -48,7 +48,7 @@ fn shorter_than(room: usize, w: usize, h: usize, k: usize) -> bool
 }
 
 // Whether the output or the scratch is too short.
-fn too_short(w: usize, h: usize, k: usize, room: usize, scratch: usize) -> bool
+pub fn too_short(w: usize, h: usize, k: usize, room: usize, scratch: usize) -> bool
     requires { ⌜ (badSize w h ≡ false) × (tooDeep w h k ≡ false) ⌝ }
     ensures { λ r. ⌜ r ≡ tooShort w h k room scratch ⌝ }
 {

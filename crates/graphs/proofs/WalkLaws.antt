@@ -1,0 +1,30 @@
+-- Walks join, turn round and are mapped; and a truth value that tells whether something holds is determined.
+use mathlib.Core.Path.{_≡_, refl}
+use mathlib.Core.Bool.{Bool, true, false}
+use mathlib.Core.Logic.{inl, inr, ⊎-elim}
+use Rattle.graphs.specs.Walks.{Walk, start, step, Judged}
+
+module _ {A : Type 0} {Edge : A → A → Type 0} where
+  pub walk-on : {t u v : A} → Walk Edge t u → Walk Edge u v → Walk Edge t v
+  walk-on w start = w
+  walk-on w (step u v x e) = step u v (walk-on w x) e
+
+  pub walk-back : {t u : A} → Walk Edge t u → Walk Edge u t
+  walk-back start = start
+  walk-back (step u v x e) = walk-on (step v u start (⊎-elim inr inl e)) (walk-back x)
+
+-- a map under which each edge becomes a walk makes a walk of each walk, and so does one that keeps edges
+module _ {A B : Type 0} {Edge : A → A → Type 0} {Edge′ : B → B → Type 0} (f : A → B) where
+  pub walk-along : ((u v : A) → Edge u v → Walk Edge′ (f u) (f v)) → {t u : A} → Walk Edge t u → Walk Edge′ (f t) (f u)
+  walk-along g start = start
+  walk-along g (step u v x e) =
+      walk-on (walk-along g x) (⊎-elim (λ (a : Edge u v). g u v a) (λ (a : Edge v u). walk-back (g v u a)) e)
+
+  pub walk-map : ((u v : A) → Edge u v → Edge′ (f u) (f v)) → {t u : A} → Walk Edge t u → Walk Edge′ (f t) (f u)
+  walk-map g = walk-along (λ u v e. step (f u) (f v) start (inl (g u v e)))
+
+pub judged-once : {H : Type 0} {a b : Bool} → Judged H a → Judged H b → a ≡ b
+judged-once {a = true} {b = true} j k = refl
+judged-once {a = true} {b = false} j k = absurd (k .no refl (j .yes refl))
+judged-once {a = false} {b = true} j k = absurd (j .no refl (k .yes refl))
+judged-once {a = false} {b = false} j k = refl
