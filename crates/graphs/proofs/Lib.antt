@@ -2,3 +2,4 @@
 pub mod Tests
 pub mod WalkLaws
 pub mod Reaching
+pub mod LinkLaws

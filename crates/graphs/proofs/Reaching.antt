@@ -2,7 +2,7 @@
 -- inside. The marks only grow, so after n rounds a round adds nothing: what is marked is closed under edges, and a walk
 -- from the first does not leave it.
 use mathlib.Core.Path.{_≡_, refl, sym, ap, subst, _∙_}
-use mathlib.Core.Bool.{Bool, true, false, _&&_, _||_, not, cond, and-eq-true-iff, true≢false, false≢true}
+use mathlib.Core.Bool.{Bool, true, false, _&&_, _||_, not, and-eq-true-iff, true≢false, false≢true}
 use mathlib.Core.List.{List, [], _∷_}
 use mathlib.Core.Logic.{_⊎_, inl, inr, ⊎-elim}
 use Prim.Native.Nat.{ℕ, zero, suc, _+_, _≤_, _<_}
@@ -12,6 +12,7 @@ use lib.Dec.{lit≤}
 use borrow.Author.Tests.{not-true, not-false}
 use Rattle.exact.proofs.FillingLaws.{getD-runs, runs-same}
 use Rattle.graphs.specs.Walks.{Walk, start, step, ConnectedBy, Judged}
+use Rattle.graphs.specs.Links.{bit, countBelow}
 use Rattle.graphs.specs.Reaching.{anyBelow, marked, marksOf, isFirst, nextReached, reached, allReached}
 use Rattle.graphs.proofs.Tests.{or-cases, or-first, or-second, both, and-second}
 use Rattle.graphs.proofs.WalkLaws.{walk-on, walk-back}
@@ -80,13 +81,6 @@ first-once f s t a b =
 
 -- ---- how many numbers below n are marked
 
-abbrev bit : Bool → ℕ
-bit b = cond b 1 0
-
-abbrev count : ℕ → (ℕ → Bool) → ℕ
-count zero f = 0
-count (suc n) f = count n f + bit (f n)
-
 bit-less : (a b : Bool) → (a ≡ true → b ≡ true) → bit a ≤ bit b
 bit-less true b h = subst (λ (t : Bool). 1 ≤ bit t) (sym (h refl)) (lit≤ tt)
 bit-less false b h = omega arith
@@ -99,28 +93,31 @@ bit-most : (a : Bool) → bit a ≤ 1
 bit-most true = lit≤ tt
 bit-most false = lit≤ tt
 
-count-most : (n : ℕ) (f : ℕ → Bool) → count n f ≤ n
+count-most : (n : ℕ) (f : ℕ → Bool) → countBelow n f ≤ n
+unfolding countBelow
 count-most zero f = lit≤ tt
 count-most (suc n) f = omega (arith, count-most n f, bit-most (f n))
 
-count-grows : (n : ℕ) (f g : ℕ → Bool) → ((t : ℕ) → t < n → f t ≡ true → g t ≡ true) → count n f ≤ count n g
+count-grows : (n : ℕ) (f g : ℕ → Bool) → ((t : ℕ) → t < n → f t ≡ true → g t ≡ true) → countBelow n f ≤ countBelow n g
+unfolding countBelow
 count-grows zero f g h = lit≤ tt
 count-grows (suc n) f g h =
     omega (arith, count-grows n f g (λ t l. h t (omega arith)), bit-less (f n) (g n) (h n (omega arith)))
 
 -- where the count does not grow, nothing was added
-count-stays : (n : ℕ) (f g : ℕ → Bool) → ((t : ℕ) → t < n → f t ≡ true → g t ≡ true) → count n g ≤ count n f →
+count-stays : (n : ℕ) (f g : ℕ → Bool) → ((t : ℕ) → t < n → f t ≡ true → g t ≡ true) → countBelow n g ≤ countBelow n f →
     (t : ℕ) → t < n → g t ≡ true → f t ≡ true
+unfolding countBelow
 count-stays zero f g h k t l = absurd (omega (arith, l))
 count-stays (suc n) f g h k t l = go (count-stays n f g (λ u m. h u (omega arith))) (decLt t n)
   where
-    less : count n f ≤ count n g
+    less : countBelow n f ≤ countBelow n g
     less = count-grows n f g (λ u m. h u (omega arith))
 
     last : bit (f n) ≤ bit (g n)
     last = bit-less (f n) (g n) (h n (omega arith))
 
-    go : (count n g ≤ count n f → (t : ℕ) → t < n → g t ≡ true → f t ≡ true) → Dec (t < n) → g t ≡ true → f t ≡ true
+    go : (countBelow n g ≤ countBelow n f → (t : ℕ) → t < n → g t ≡ true → f t ≡ true) → Dec (t < n) → g t ≡ true → f t ≡ true
     go before (yes m) = before (omega (arith, k, last)) t m
     go before (no m) =
         let at : n ≡ t = omega arith in
@@ -176,14 +173,14 @@ module _ (n : ℕ) (inside : ℕ → Bool) (edge : ℕ → ℕ → Bool) where
       (round-from (suc r) t l e)
 
   -- each round before that adds one at least
-  fixed-or-more : (r : ℕ) → Fixed r ⊎ (r ≤ count n (mark r))
+  fixed-or-more : (r : ℕ) → Fixed r ⊎ (r ≤ countBelow n (mark r))
   fixed-or-more zero = inr (omega arith)
   fixed-or-more (suc r) =
-      ⊎-elim (λ f. inl (fixed-on r f)) (λ more. go more (decLt (count n (mark r)) (count n (mark (suc r)))))
+      ⊎-elim (λ f. inl (fixed-on r f)) (λ more. go more (decLt (countBelow n (mark r)) (countBelow n (mark (suc r)))))
       (fixed-or-more r)
     where
-      go : r ≤ count n (mark r) → Dec (count n (mark r) < count n (mark (suc r))) →
-          Fixed (suc r) ⊎ (suc r ≤ count n (mark (suc r)))
+      go : r ≤ countBelow n (mark r) → Dec (countBelow n (mark r) < countBelow n (mark (suc r))) →
+          Fixed (suc r) ⊎ (suc r ≤ countBelow n (mark (suc r)))
       go more (yes l) = inr (omega arith)
       go more (no l) = inl (fixed-on r (count-stays n (mark r) (mark (suc r)) (λ t k. round-keeps r t k) (omega arith)))
 
@@ -191,7 +188,7 @@ module _ (n : ℕ) (inside : ℕ → Bool) (edge : ℕ → ℕ → Bool) where
   all-rounds : Fixed n
   all-rounds =
       ⊎-elim (λ (f : Fixed n). f)
-      (λ (full : n ≤ count n (mark n)). λ t l e.
+      (λ (full : n ≤ countBelow n (mark n)). λ t l e.
       count-stays n (mark n) (λ u. true) (λ u k a. refl) (omega (arith, full, count-most n (λ u. true))) t l refl)
       (fixed-or-more n)
 

@@ -8,17 +8,13 @@ use Prim.Native.Nat.{ℕ, _<_}
 use Rattle.net.specs.Net.{Triangle}
 use Rattle.graphs.specs.Walks.{Walk, start, step, ConnectedBy, Judged}
 use Rattle.graphs.proofs.Tests.{both}
-use Rattle.graphs.proofs.WalkLaws.{walk-along, walk-map, judged-once}
+use Rattle.graphs.proofs.WalkLaws.{walk-along, walk-map, judged-once, judged-for}
 use Rattle.graphs.proofs.Reaching.{reaching-judged}
 use Rattle.outline.specs.Outline.{triangles, byteOf, triangleOf, presentAt, Present}
 use Rattle.outline.specs.Connected.{Adjacent, Shared, Connected, adjacent, edgeAt, connected}
 use Rattle.outline.specs.Promises.{ConnectedJudged, DisconnectedDetermined}
 use Rattle.outline.proofs.Numbers.{byte-below, triangle-of-byte, triangle-of-net, byte-of-triangle}
 use Rattle.outline.proofs.Edges.{adjacent-yes, adjacent-if, adjacent-symmetric}
-
--- what is told of one statement is told of another that holds exactly where it does
-judged-same : {H K : Type 0} {b : Bool} → (H → K) → (K → H) → Judged H b → Judged K b
-judged-same f g j = record { yes = λ e. f (j .yes e); no = λ e k. j .no e (g k) }
 
 -- a walk whose ends are written otherwise
 walk-between : {A : Type 0} {Edge : A → A → Type 0} {t t′ u u′ : A} → t ≡ t′ → u ≡ u′ → Walk Edge t u → Walk Edge t′ u′
@@ -91,7 +87,7 @@ module _ (outline : List ℕ) (w h : ℕ) where
 pub connected-judged : ConnectedJudged
 unfolding connected
 connected-judged outline w h =
-    judged-same (triangles-connected outline w h) (bytes-connected outline w h)
+    judged-for (triangles-connected outline w h) (bytes-connected outline w h)
     (reaching-judged (triangles w h) (presentAt outline) (edgeAt outline w)
     (λ m n k l. edge-symmetric outline w h m n))
 

@@ -4,4 +4,5 @@ pub mod Numbers
 pub mod Edges
 pub mod Connected
 pub mod CutOutlines
+pub mod SearchLaws
 pub mod Searching

@@ -2,14 +2,17 @@
 use mathlib.Core.Path.{_≡_, refl, sym, ap, _∙_}
 use mathlib.Core.Bool.{Bool, true, false}
 use Prim.Native.Nat.{ℕ, _+_, _-_, _*_, _/_, _%_, _≤_, _<_}
-use native.Mathlib.Nat.{mul-comm}
+use native.Mathlib.Nat.{add-mul, mul-comm}
 use native.Mathlib.Omega.{arith}
 use lib.Arith.{digits-lt, digits-div, digits-mod}
-use lib.Dec.{eqb, lit≤}
-use borrow.Author.Tests.{eqb-true, eqb-false}
+use lib.Dec.{ltb, eqb, lit≤}
+use borrow.Author.Tests.{ltb-true, eqb-true, eqb-false}
 use Rattle.net.specs.Net.{Triangle, triangleAt, OfNet}
+use Rattle.net.specs.Refusals.{badSize}
+use Rattle.net.proofs.Places.{good-size}
 use Rattle.net.proofs.Grids.{vertex-in-grid}
 use Rattle.outline.specs.Outline.{triangles, inCell, byteOf, triangleOf}
+use Rattle.outline.proofs.ByteLaws.{few-cells}
 
 in-cell : (d : Bool) → inCell d ≤ 1
 in-cell true = lit≤ tt
@@ -62,3 +65,27 @@ module _ (w h n : ℕ) (below : n < triangles w h) where
 
   pub byte-of-triangle : byteOf w (triangleOf w n) ≡ n
   byte-of-triangle = omega (arith, cell-in-grid .2, byte-in-cell n)
+
+-- there are few triangles
+pub few-triangles : (w h : ℕ) → badSize w h ≡ false → triangles w h ≤ 2097152
+few-triangles w h e = omega (arith, few-cells (good-size w h e))
+
+-- the bytes of cell (i, j), of the up triangle beside it and of the one above it, counted from the cell's first
+pub record CellBytes (w h i j at : ℕ) : Type 0 where
+  pub own : at + 1 < triangles w h
+  pub beside : ltb (i + 2) w ≡ true → at + 2 < triangles w h
+  pub above : ltb (j + 2) h ≡ true → at + 2 * (w - 1) < triangles w h
+  pub beside-byte : at + 2 ≡ byteOf w (triangleAt (i + 1) j false)
+  pub above-byte : at + 2 * (w - 1) ≡ byteOf w (triangleAt i (j + 1) false)
+
+pub cell-bytes : (w h i j : ℕ) → i + 2 ≤ w → j + 2 ≤ h → CellBytes w h i j (2 * (j * (w - 1) + i))
+cell-bytes w h i j p q =
+    let next : (j + 1) * (w - 1) ≡ j * (w - 1) + (w - 1) = omega (arith, add-mul j 1 (w - 1)) in
+    record {
+      own = byte-below w h (triangleAt i j true) (p, q);
+      beside = λ e. omega (arith, byte-below w h (triangleAt (i + 1) j false) (omega (arith, ltb-true (i + 2) w e), q));
+      above = λ e.
+          omega (arith, next, byte-below w h (triangleAt i (j + 1) false) (p, omega (arith, ltb-true (j + 2) h e)));
+      beside-byte = omega arith;
+      above-byte = omega (arith, next);
+    }

@@ -1,9 +1,13 @@
 // Outlines: which triangles of a net are present.
 mod answers;
 mod bytes;
+mod search;
 
 pub use answers::CheckAnswer;
+
+// For the crates above, which have refused a size and an outline by 1 and 2 before, and a search by 5.
 pub use bytes::bad_byte;
 pub use bytes::count_triangles;
 pub use bytes::outlined_refusal;
 pub use bytes::short_outline;
+pub use search::is_connected;
