@@ -1,9 +1,12 @@
 // Outlines: which triangles of a net are present.
 mod answers;
 mod bytes;
+mod checking;
 mod search;
 
+// The call of document 02, a: no preconditions.
 pub use answers::CheckAnswer;
+pub use checking::check_outline;
 
 // For the crates above, which have refused a size and an outline by 1 and 2 before, and a search by 5.
 pub use bytes::bad_byte;

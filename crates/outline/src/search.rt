@@ -1,5 +1,6 @@
 // Whether the present triangles of an outline are connected. Triangles that share an edge are joined by links, cell by
 // cell, so that what is joined has one root.
+use crate::bytes::count_triangles;
 use graphs::join;
 use graphs::link_self;
 ghost use mathlib.Core.Path.{_≡_};
@@ -12,7 +13,7 @@ ghost use Rattle.net.specs.Refusals.{badSize};
 ghost use Rattle.graphs.specs.Walks.{Judged};
 ghost use Rattle.graphs.specs.Links.{Linked, JoinedIf};
 ghost use Rattle.outline.specs.Outline.{triangles};
-ghost use Rattle.outline.specs.Connected.{Connected};
+ghost use Rattle.outline.specs.Connected.{Connected, connected};
 ghost use Rattle.outline.specs.Search.{Searched, Joined, InCell, InRow, Anywhere, joins, roots};
 
 // Two bytes, joined where there is such an edge (`inside`) and both are present.
@@ -89,13 +90,14 @@ fn connected_over(outline: &[u8], w: usize, h: usize, links: &mut [u32]) -> bool
     one_root(outline, links)
 }
 
-// The same over the front of the search. For checking an outline, which has refused every bad size and short slice.
+// The same over the front of the search, which is free afterwards. For the calls that check an outline or refine with
+// one, which have refused every bad size and every slice that is too short.
 pub fn is_connected(outline: &[u8], w: usize, h: usize, search: &mut [u32]) -> bool
     requires { ⌜ (badSize w h ≡ false) × (triangles w h ≤ length (now outline))
         × (triangles w h ≤ length (now search)) ⌝ }
-    ensures { λ r. ⌜ Judged (Connected (now (outline .entry)) w h) r ⌝ }
+    ensures { λ r. ⌜ r ≡ connected (now (outline .entry)) w h ⌝ }
     ensures { λ r. ⌜ UnchangedFrom (triangles w h) (now (search .entry)) (now (search .exit)) ⌝ }
 {
-    let n = 2 * ((w - 1) * (h - 1));
+    let n = count_triangles(w, h);
     connected_over(outline, w, h, &mut search[..n])
 }

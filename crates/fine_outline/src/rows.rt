@@ -1,0 +1,72 @@
+// The outline of a refined net, written row by row. Of the fine triangles of one row that lie in one starting cell, the
+// first lie in its up triangle and the others in its down triangle: so each part of a row is two fills.
+use steps::side_after;
+ghost use mathlib.Core.Path.{_≡_};
+ghost use Prim.Native.Nat.{_+_, _-_, _*_, _≤_, _<_};
+ghost use lib.ListN.{length};
+ghost use lib.Seq.{sets};
+ghost use Rattle.exact.specs.Filling.{over};
+ghost use Rattle.subdivision.specs.Refinement.{sideAfter};
+ghost use Rattle.outline.specs.Outline.{triangles};
+ghost use Rattle.steps.specs.Steps.{Depth};
+ghost use Rattle.fine_outline.specs.FineOutline.{fineOutline};
+ghost use Rattle.fine_outline.specs.Rows.{filled, cellRun, rowRun, RowReady};
+
+// One byte n times, from a place on.
+fn fill(b: u8, at: usize, n: usize, fine: &mut [u8])
+    requires { ⌜ at + n ≤ length (now fine) ⌝ }
+    ensures { λ r. ⌜ now (fine .exit) ≡ sets (now (fine .entry)) at (filled n b) ⌝ }
+{
+    let mut i = 0;
+    while i < n {
+        fine[at + i] = b;
+        i += 1;
+    }
+}
+
+// The part of a fine row that lies in one starting cell.
+fn write_cell(up: u8, down: u8, s: usize, g: usize, at: usize, fine: &mut [u8])
+    requires { ⌜ (g < s) × (s ≤ 64) × (at + 2 * s ≤ length (now fine)) ⌝ }
+    ensures { λ r. ⌜ now (fine .exit) ≡ sets (now (fine .entry)) at (cellRun up down s g) ⌝ }
+{
+    let n = 2 * (s - g) - 1;
+    fill(up, at, n, fine);
+    fill(down, at + n, 2 * s - n, fine);
+}
+
+// Fine row r.
+fn write_row(outline: &[u8], w: usize, h: usize, s: usize, r: usize, fine: &mut [u8])
+    requires { ⌜ RowReady (now outline) w h s (now fine) × (r < s * (h - 1)) ⌝ }
+    ensures { λ u. ⌜ now (fine .exit)
+        ≡ sets (now (fine .entry)) (r * ((w - 1) * (2 * s))) (rowRun (now (outline .entry)) w s r) ⌝ }
+{
+    let cells = w - 1;
+    let part = 2 * s;
+    let g = r % s;
+    let from = r / s * cells;
+    let at = r * (cells * part);
+    let mut i = 0;
+    while i < cells {
+        let n = 2 * (from + i);
+        let up = outline[n];
+        let down = outline[n + 1];
+        write_cell(up, down, s, g, at + i * part, fine);
+        i += 1;
+    }
+}
+
+// The outline of the net after k steps, over the front of `fine`. For `refine`, which has refused every other size, k
+// and length.
+pub fn write_fine_outline(outline: &[u8], w: usize, h: usize, k: usize, fine: &mut [u8])
+    requires { ⌜ Depth w h k × (triangles w h ≤ length (now outline))
+        × (triangles (sideAfter k w) (sideAfter k h) ≤ length (now fine)) ⌝ }
+    ensures { λ r. ⌜ now (fine .exit) ≡ over (fineOutline (now (outline .entry)) w h k) (now (fine .entry)) ⌝ }
+{
+    let s = side_after(2, k) - 1;
+    let rows = s * (h - 1);
+    let mut r = 0;
+    while r < rows {
+        write_row(outline, w, h, s, r, fine);
+        r += 1;
+    }
+}

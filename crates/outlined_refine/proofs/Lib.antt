@@ -1,0 +1,2 @@
+-- Laws of refining with an outline.
+pub mod CallLaws
