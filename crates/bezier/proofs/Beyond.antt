@@ -21,7 +21,7 @@ use Rattle.bezier.specs.Refusals.{noTriangle, bezierRefusal}
 use Rattle.bezier.specs.Answers.{bezierOutput}
 use Rattle.bezier.proofs.BezierNets.{cell-in-grid}
 
-cut-numbers : (net : List ℤ) (w h : ℕ) (t : Triangle) → InGrid w h (t .column) (t .row) →
+pub cut-numbers : (net : List ℤ) (w h : ℕ) (t : Triangle) → InGrid w h (t .column) (t .row) →
     bezierNumbers net w t ≡ bezierNumbers (cut net w h) w t
 cut-numbers net w h t g =
     let same : (x : ℕ) → x < 3 →

@@ -77,8 +77,8 @@ fn write_points(xs: [i32; 19], ys: [i32; 19], zs: [i32; 19], out: &mut [i32])
     }
 }
 
-// Whether cell (i, j) is not in the grid.
-fn no_triangle(w: usize, h: usize, i: usize, j: usize) -> bool
+// Whether cell (i, j) is not in the grid. Also for the crates above; they test the size first.
+pub fn no_triangle(w: usize, h: usize, i: usize, j: usize) -> bool
     requires { ⌜ badSize w h ≡ false ⌝ }
     ensures { λ r. ⌜ r ≡ noTriangle w h i j ⌝ }
 {

@@ -1,1 +1,4 @@
 -- Laws of places on the door.
+pub mod DoorLaws
+pub mod CellLaws
+pub mod CutDoors

@@ -5,7 +5,7 @@ use mathlib.Core.Bool.{Bool, true, false, _&&_}
 use mathlib.Core.List.{List, [], _∷_}
 use Prim.Native.Nat.{ℕ, _+_, _*_}
 use lib.Dec.{leb}
-use Rattle.net.specs.Net.{Triangle, triangleAt}
+use Rattle.net.specs.Net.{Triangle}
 use Rattle.places.specs.Places.{LiesIn}
 use Rattle.graphs.specs.Reaching.{anyBelow}
 use Rattle.outline.specs.Outline.{triangles, triangleOf, presentAt, Present}

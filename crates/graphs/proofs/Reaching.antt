@@ -19,7 +19,7 @@ use Rattle.graphs.proofs.WalkLaws.{walk-on, walk-back}
 
 -- ---- whether a test holds of a number below n
 
-any-some : (n : ℕ) (f : ℕ → Bool) → anyBelow n f ≡ true → (t : ℕ) × (t < n) × (f t ≡ true)
+pub any-some : (n : ℕ) (f : ℕ → Bool) → anyBelow n f ≡ true → (t : ℕ) × (t < n) × (f t ≡ true)
 any-some zero f e = absurd (false≢true e)
 any-some (suc n) f e =
     ⊎-elim
@@ -27,7 +27,7 @@ any-some (suc n) f e =
     (λ (a : f n ≡ true). (n, omega arith, a))
     (or-cases (anyBelow n f) (f n) e)
 
-any-yes : (n : ℕ) (f : ℕ → Bool) (t : ℕ) → t < n → f t ≡ true → anyBelow n f ≡ true
+pub any-yes : (n : ℕ) (f : ℕ → Bool) (t : ℕ) → t < n → f t ≡ true → anyBelow n f ≡ true
 any-yes zero f t l e = absurd (omega (arith, l))
 any-yes (suc n) f t l e = go (any-yes n f t) (decLt t n)
   where
@@ -45,7 +45,7 @@ any-none n f e t l = go (f t) refl
     go false a = a
 
 -- tests that agree below n
-any-same : (n : ℕ) (f g : ℕ → Bool) → ((t : ℕ) → t < n → f t ≡ g t) → anyBelow n f ≡ anyBelow n g
+pub any-same : (n : ℕ) (f g : ℕ → Bool) → ((t : ℕ) → t < n → f t ≡ g t) → anyBelow n f ≡ anyBelow n g
 any-same zero f g h = refl
 any-same (suc n) f g h = λ i. any-same n f g (λ t l. h t (omega arith)) i || h n (omega arith) i
 

@@ -25,6 +25,9 @@ anyAboveOne (b ∷ bytes) = ltb 1 b || anyAboveOne bytes
 unfoldable pub badByte : List ℕ → ℕ → ℕ → Bool
 badByte outline w h = anyAboveOne (take (triangles w h) outline)
 
+abbrev pub outlineFaults : List ℕ → ℕ → ℕ → List Fault
+outlineFaults outline w h = (shortOutline outline w h, 2) ∷ (badByte outline w h, 13) ∷ []
+
 -- of a net with its outline: 2 where either is too short, and 13
 abbrev pub outlinedFaults : List ℤ → ℕ → ℕ → List ℕ → List Fault
 outlinedFaults net w h outline =

@@ -6,7 +6,7 @@ ghost use Prim.Native.Nat.{_≤_};
 ghost use lib.ListN.{length};
 ghost use Rattle.net.specs.Refusals.{firstFault, badSize};
 ghost use Rattle.outline.specs.Outline.{triangles};
-ghost use Rattle.outline.specs.Refusals.{shortOutline, anyAboveOne, badByte, outlinedFaults};
+ghost use Rattle.outline.specs.Refusals.{shortOutline, anyAboveOne, badByte, outlineFaults, outlinedFaults};
 
 // How many triangles a net of an accepted size has. For the crates above; they test the size first.
 pub fn count_triangles(w: usize, h: usize) -> usize
@@ -48,6 +48,20 @@ pub fn bad_byte(outline: &[u8], w: usize, h: usize) -> bool
     any_above_one(&outline[..n])
 }
 
+// The first of 2 and 13 of an outline, or 0. For the crates above; they test the size first.
+pub fn outline_refusal(outline: &[u8], w: usize, h: usize) -> u32
+    requires { ⌜ badSize w h ≡ false ⌝ }
+    ensures { λ r. ⌜ r ≡ firstFault (outlineFaults (now (outline .entry)) w h) ⌝ }
+{
+    if short_outline(outline, w, h) {
+        return 2;
+    }
+    if bad_byte(outline, w, h) {
+        return 13;
+    }
+    0
+}
+
 // The first of 2 and 13 of a net with its outline, or 0. For the crates above; they test the size first.
 pub fn outlined_refusal(net: &[i32], w: usize, h: usize, outline: &[u8]) -> u32
     requires { ⌜ badSize w h ≡ false ⌝ }
@@ -56,11 +70,5 @@ pub fn outlined_refusal(net: &[i32], w: usize, h: usize, outline: &[u8]) -> u32
     if short_net(net, w, h) {
         return 2;
     }
-    if short_outline(outline, w, h) {
-        return 2;
-    }
-    if bad_byte(outline, w, h) {
-        return 13;
-    }
-    0
+    outline_refusal(outline, w, h)
 }

@@ -47,7 +47,7 @@ cut-coordinate net w h p q g x b =
     λ i. rounded (valueIn (t .down) (cut-controls net w h t g x b i) (orderOf s) s) 37748736
 
 -- a point that is accepted is the same
-cut-point : (net : List ℤ) (w h p q : ℕ) → accepted (pointRefusal net w h p q) ≡ true →
+pub cut-point : (net : List ℤ) (w h p q : ℕ) → accepted (pointRefusal net w h p q) ≡ true →
     surfacePoint net w h p q ≡ surfacePoint (cut net w h) w h p q
 cut-point net w h p q e =
     let g = place-grid-of net w h p q (eqb-true (pointRefusal net w h p q) 0 e) in
@@ -55,7 +55,7 @@ cut-point net w h p q e =
     ∷ cut-coordinate net w h p q g 2 (lit< tt) i ∷ []
 
 -- so the answers are
-answers-alike : {A : Type 0} {r r′ : ℕ} {v v′ : List A} → r ≡ r′ → (accepted r ≡ true → v ≡ v′) →
+pub answers-alike : {A : Type 0} {r r′ : ℕ} {v v′ : List A} → r ≡ r′ → (accepted r ≡ true → v ≡ v′) →
     _≡_ {A = ℕ × List A} (r, cond (accepted r) v []) (r′, cond (accepted r′) v′ [])
 answers-alike {r = r} {v′ = v′} e f =
     (λ i. (r, cond-where (accepted r) [] f i)) ∙ (λ i. (e i, cond (accepted (e i)) v′ []))
