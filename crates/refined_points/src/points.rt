@@ -13,8 +13,8 @@ ghost use Rattle.refine.specs.Refusals.{tooDeep, tooShort};
 ghost use Rattle.refined_points.specs.Refusals.{offGrid, refinedPointRefusal};
 ghost use Rattle.refined_points.specs.Contract.{RefinedPointContract};
 
-// Whether place (p, q) is off the refined grid.
-fn off_grid(w: usize, h: usize, k: usize, p: usize, q: usize) -> bool
+// Whether place (p, q) is off the refined grid. For the crates above too, which have refused a size and a k by 1 and 4.
+pub fn off_grid(w: usize, h: usize, k: usize, p: usize, q: usize) -> bool
     requires { ⌜ (badSize w h ≡ false) × (tooDeep w h k ≡ false) ⌝ }
     ensures { λ r. ⌜ r ≡ offGrid w h k p q ⌝ }
 {
