@@ -43,3 +43,12 @@ judged-once {a = false} {b = false} j k = refl
 -- what holds exactly where something else does is told by the same truth value
 pub judged-for : {H K : Type 0} {b : Bool} → (H → K) → (K → H) → Judged H b → Judged K b
 judged-for f g j = record { yes = λ e. f (j .yes e); no = λ e k. j .no e (g k) }
+
+-- from what holds to the truth value
+pub judged-yes : {H : Type 0} {b : Bool} → Judged H b → H → b ≡ true
+judged-yes {b = true} j holds = refl
+judged-yes {b = false} j holds = absurd (j .no refl holds)
+
+pub judged-no : {H : Type 0} {b : Bool} → Judged H b → (H → ⊥) → b ≡ false
+judged-no {b = true} j not-holds = absurd (not-holds (j .yes refl))
+judged-no {b = false} j not-holds = refl
