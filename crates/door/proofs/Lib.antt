@@ -2,3 +2,4 @@
 pub mod DoorLaws
 pub mod CellLaws
 pub mod CutDoors
+pub mod FullDoors

@@ -1,23 +1,22 @@
 -- Outlines that agree on the bytes of a net have the same present triangles, the same door and the same fine outline:
 -- the outline that was cut after the last triangle, and the lent slice whose front is the outline. And what holds of
 -- every byte of an outline holds of every byte of its fine outline.
-use mathlib.Core.Path.{_≡_, refl, sym, ap, subst, _∙_}
+use mathlib.Core.Path.{_≡_, sym, ap, subst, _∙_}
 use mathlib.Core.Bool.{false}
 use mathlib.Core.List.{List, [], _∷_}
-use Prim.Native.Nat.{ℕ, zero, suc, _≤_, _<_}
+use Prim.Native.Nat.{ℕ, _≤_, _<_}
 use native.Mathlib.Omega.{arith}
-use lib.Dec.{eqb, ltb}
+use lib.Dec.{eqb}
 use lib.ListN.{length, getD, take, drop, List·getD-append}
 use lib.Seq.{getD-take, length-take-le, take-all}
-use borrow.Author.Tests.{ltb-false, le-ltb}
 use Rattle.exact.specs.Filling.{over}
 use Rattle.exact.proofs.FillingLaws.{runs-same}
 use Rattle.net.specs.Net.{Triangle, OfNet}
-use Rattle.net.proofs.Faults.{or-no, or-none}
 use Rattle.subdivision.specs.Refinement.{sideAfter}
 use Rattle.outline.specs.Outline.{triangles, byteOf, triangleOf, present, Present}
 use Rattle.outline.specs.Connected.{Connected}
 use Rattle.outline.specs.Refusals.{anyAboveOne, badByte}
+use Rattle.outline.proofs.ByteLaws.{none-above, above-none}
 use Rattle.outline.proofs.Numbers.{byte-below, triangle-of-net}
 use Rattle.door.specs.Door.{OnDoor}
 use Rattle.fine_outline.specs.FineOutline.{parent, fineOutline}
@@ -122,18 +121,6 @@ pub fine-full : (outline : List ℕ) (w h k : ℕ) → 2 ≤ w → 2 ≤ h →
     ((n : ℕ) → n < triangles w h → getD outline n 0 ≡ 1) →
     (n : ℕ) → n < triangles (sideAfter k w) (sideAfter k h) → getD (fineOutline outline w h k) n 0 ≡ 1
 fine-full = fine-all (λ b. b ≡ 1)
-
--- no byte is above 1
-none-above : (l : List ℕ) → anyAboveOne l ≡ false → (n : ℕ) → n < length l → getD l n 0 ≤ 1
-none-above [] e n a = absurd (omega (arith, a))
-none-above (b ∷ l) e zero a = ltb-false 1 b (or-none (ltb 1 b) (anyAboveOne l) e .0)
-none-above (b ∷ l) e (suc n) a = none-above l (or-none (ltb 1 b) (anyAboveOne l) e .1) n (omega (arith, a))
-
-above-none : (l : List ℕ) → ((n : ℕ) → n < length l → getD l n 0 ≤ 1) → anyAboveOne l ≡ false
-above-none [] f = refl
-above-none (b ∷ l) f =
-    sym (or-no (ltb 1 b) (anyAboveOne l) (le-ltb 1 b (f 0 (omega arith)))
-    (sym (above-none l (λ n a. f (suc n) (omega (arith, a))))))
 
 pub fine-bytes : (outline : List ℕ) (w h k : ℕ) → 2 ≤ w → 2 ≤ h → badByte outline w h ≡ false →
     triangles w h ≤ length outline → badByte (fineOutline outline w h k) (sideAfter k w) (sideAfter k h) ≡ false

@@ -40,15 +40,15 @@ judged-once {a = true} {b = false} j k = absurd (k .no refl (j .yes refl))
 judged-once {a = false} {b = true} j k = absurd (j .no refl (k .yes refl))
 judged-once {a = false} {b = false} j k = refl
 
+-- the truth value where it holds, and where it does not
+pub judged-yes : {H : Type 0} {b : Bool} → Judged H b → H → b ≡ true
+judged-yes {b = true} j k = refl
+judged-yes {b = false} j k = absurd (j .no refl k)
+
+pub judged-no : {H : Type 0} {b : Bool} → Judged H b → (H → ⊥) → b ≡ false
+judged-no {b = true} j k = absurd (k (j .yes refl))
+judged-no {b = false} j k = refl
+
 -- what holds exactly where something else does is told by the same truth value
 pub judged-for : {H K : Type 0} {b : Bool} → (H → K) → (K → H) → Judged H b → Judged K b
 judged-for f g j = record { yes = λ e. f (j .yes e); no = λ e k. j .no e (g k) }
-
--- from what holds to the truth value
-pub judged-yes : {H : Type 0} {b : Bool} → Judged H b → H → b ≡ true
-judged-yes {b = true} j holds = refl
-judged-yes {b = false} j holds = absurd (j .no refl holds)
-
-pub judged-no : {H : Type 0} {b : Bool} → Judged H b → (H → ⊥) → b ≡ false
-judged-no {b = true} j not-holds = absurd (not-holds (j .yes refl))
-judged-no {b = false} j not-holds = refl

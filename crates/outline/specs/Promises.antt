@@ -1,14 +1,17 @@
 -- Outlines, of the definitions: the statements, each with the name of its proof.
 use mathlib.Core.Path.{_≡_, refl, ap}
 use mathlib.Core.Bool.{Bool, true, false, not}
-use mathlib.Core.List.{List}
+use mathlib.Core.List.{List, [], _∷_}
 use mathlib.Core.Logic.{_⊎_}
-use Prim.Native.Nat.{ℕ}
+use Prim.Native.Nat.{ℕ, zero, suc, _<_, _≤_}
 use native.Mathlib.Omega.{arith}
+use lib.Dec.{lit<}
+use lib.ListN.{getD}
 use Rattle.net.specs.Net.{Index, one, two, three, rank, Triangle, triangleAt, corner}
 use Rattle.graphs.specs.Walks.{Judged}
+use Rattle.outline.specs.Outline.{triangles}
 use Rattle.outline.specs.Connected.{Adjacent, Connected, connected}
-use Rattle.outline.specs.Refusals.{disconnected}
+use Rattle.outline.specs.Refusals.{shortOutline, disconnected}
 
 -- two corners of t that are corners of u
 pub record CommonCorners (t u : Triangle) : Type 0 where
@@ -37,6 +40,17 @@ DisconnectedDetermined =
     (outline : List ℕ) (w h : ℕ) (b : Bool) → Judged (Connected outline w h) b →
     disconnected outline w h ≡ not b
 
+-- an outline that is long enough and whose triangles are all present
+pub record Full (outline : List ℕ) (w h : ℕ) : Type 0 where
+  pub long : shortOutline outline w h ≡ false
+  pub ones : (n : ℕ) → n < triangles w h → getD outline n 0 ≡ 1
+
+-- where all triangles are present they are connected (`full-connected`)
+abbrev pub FullConnected : Type 0
+FullConnected =
+    (outline : List ℕ) (w h : ℕ) → 2 ≤ w → 2 ≤ h → ((n : ℕ) → n < triangles w h → getD outline n 0 ≡ 1) →
+    Connected outline w h
+
 -- worked case: corners 2 and 3 of the down triangle of cell (3, 5) are corners 1 and 2 of the up triangle above it
 corners : CommonCorners (triangleAt 3 5 true) (triangleAt 3 6 false)
 corners =
@@ -49,3 +63,20 @@ corners =
       first-common = refl;
       second-common = refl;
     }
+
+-- worked cases: of 3 by 2, all four bytes 1 and one byte more; one triangle missing; a byte too few
+abbrev allOnes : List ℕ
+allOnes = 1 ∷ 1 ∷ 1 ∷ 1 ∷ 0 ∷ []
+
+full-strip : Full allOnes 3 2
+full-strip = record { long = refl; ones = at }
+  where
+    at : (n : ℕ) → n < triangles 3 2 → getD allOnes n 0 ≡ 1
+    at zero k = refl
+    at (suc zero) k = refl
+    at (suc (suc zero)) k = refl
+    at (suc (suc (suc zero))) k = refl
+    at (suc (suc (suc (suc n)))) k = absurd (omega (arith, k))
+
+not-full : (Full (1 ∷ 1 ∷ 0 ∷ 1 ∷ []) 3 2 → ⊥) × (Full (1 ∷ 1 ∷ 1 ∷ []) 3 2 → ⊥)
+not-full = ((λ f. omega (arith, f .ones 2 (lit< tt))), (λ f. omega (arith, f .ones 3 (lit< tt))))

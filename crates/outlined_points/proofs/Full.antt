@@ -1,28 +1,27 @@
 -- With all triangles present the answers are the plain ones: no byte is above 1, every place of the grid lies in a
 -- present triangle, the one that is chosen for it, and no triangle of the net is missing.
 use mathlib.Core.Path.{_≡_, refl, ap, _∙_}
-use mathlib.Core.Bool.{Bool, true, false, _||_, not, cond}
-use mathlib.Core.List.{List, [], _∷_}
-use Prim.Native.Nat.{ℕ, suc, _≤_, _<_}
+use mathlib.Core.Bool.{Bool, true, false, _||_, not, cond, or-false}
+use mathlib.Core.List.{List}
+use Prim.Native.Nat.{ℕ, _≤_}
 use native.Mathlib.Omega.{arith}
 use lib.Dec.{ltb, eqb, lit<}
 use lib.IntN.{ℤ}
-use lib.ListN.{length, getD, take}
-use lib.Seq.{getD-take, length-take-le}
-use borrow.Author.Tests.{eq-eqb, le-ltb, ltb-false}
-use Rattle.net.specs.Net.{Triangle, OfNet}
+use lib.ListN.{length}
+use borrow.Author.Tests.{le-ltb}
+use Rattle.net.specs.Net.{OfNet}
 use Rattle.net.specs.Refusals.{badSize, shortNet, answerBy, outputAfter}
 use Rattle.net.proofs.Beyond.{cond-else}
 use Rattle.net.proofs.Places.{good-size}
 use Rattle.places.specs.Places.{chosen}
 use Rattle.places.specs.Refusals.{noPlace}
-use Rattle.places.proofs.Cells.{on-grid, cells-in-grid, chosen-lies}
 use Rattle.triangles.specs.Refusals.{triangleBeyond}
-use Rattle.outline.specs.Outline.{triangles, byteOf, present}
-use Rattle.outline.specs.Refusals.{shortOutline, anyAboveOne, badByte}
-use Rattle.outline.proofs.Numbers.{byte-below}
-use Rattle.door.specs.Door.{OnDoor, onDoor}
-use Rattle.door.proofs.DoorLaws.{on-door-judged}
+use Rattle.outline.specs.Outline.{present}
+use Rattle.outline.specs.Refusals.{shortOutline, badByte}
+use Rattle.outline.specs.Promises.{Full}
+use Rattle.outline.proofs.FullOutlines.{full-two, full-bytes, full-present}
+use Rattle.door.specs.Door.{onDoor}
+use Rattle.door.proofs.FullDoors.{full-on-door}
 use Rattle.bezier.specs.BezierNet.{bezierNumbers}
 use Rattle.bezier.specs.Refusals.{noTriangle, bezierRefusal}
 use Rattle.bezier.specs.Answers.{bezierOutput}
@@ -32,53 +31,13 @@ use Rattle.surface.specs.Answers.{pointAnswer, pointAnswerWith, viewAnswer, vie
 use Rattle.surface.proofs.Beyond.{answers-alike}
 use Rattle.outlined_points.specs.Refusals.{triangleBy, outlinedPointRefusal, outlinedBezierRefusal}
 use Rattle.outlined_points.specs.Answers.{outlinedPointAnswer, outlinedPointAnswerWith, outlinedViewAnswer, outlinedViewAnswerWith, outlinedBezierOutput}
-use Rattle.outlined_points.specs.Promises.{Full, FullOutlinePoints, FullOutlineViews, FullOutlineBezier}
-
-or-false : (a : Bool) {b : Bool} → b ≡ false → (a || b) ≡ a
-or-false true e = refl
-or-false false e = e
-
-none-above-one : (l : List ℕ) → ((n : ℕ) → n < length l → getD l n 0 ≡ 1) → anyAboveOne l ≡ false
-none-above-one [] h = refl
-none-above-one (b ∷ l) h =
-    let first : b ≡ 1 = h 0 (omega arith) in
-    (λ t. le-ltb 1 b (omega (arith, first)) t || anyAboveOne l) ∙ none-above-one l (λ n k. h (suc n) (omega (arith, k)))
+use Rattle.outlined_points.specs.Promises.{FullOutlinePoints, FullOutlineViews, FullOutlineBezier}
 
 module _ (outline : List ℕ) (w h : ℕ) (full : Full outline w h) where
-  full-bytes : badByte outline w h ≡ false
-  unfolding badByte
-  full-bytes =
-      let count = length-take-le (triangles w h) outline (ltb-false (length outline) (triangles w h) (full .long)) in
-      none-above-one (take (triangles w h) outline)
-      (λ n k.
-      let l : n < triangles w h = omega (arith, k, count) in
-      getD-take (triangles w h) outline n 0 l ∙ full .ones n l)
-
-  full-present : (t : Triangle) → OfNet w h t → present outline w t ≡ true
-  full-present t o = eq-eqb (getD outline (byteOf w t) 0) 1 (full .ones (byteOf w t) (byte-below w h t o))
-
   full-door : (p q : ℕ) → badSize w h ≡ false → noPlace 1024 w h p q ≡ false → onDoor 1024 outline w h p q ≡ true
-  full-door p q e f = go (onDoor 1024 outline w h p q) refl
-    where
-      t : Triangle
-      t = chosen 1024 w h p q
-
-      on : OnDoor 1024 outline w h p q
-      on =
-          let s = good-size w h e in
-          let g = cells-in-grid w h p q e f in
-          let o : OfNet w h t = (omega (arith, g .column), omega (arith, g .row)) in
-          record {
-            triangle = t;
-            has = (o, full-present t o);
-            lies = chosen-lies 1024 w h p q (lit< tt) (s .wide) (s .high) (on-grid 1024 w h p q f);
-          }
-
-      go : (b : Bool) → onDoor 1024 outline w h p q ≡ b → onDoor 1024 outline w h p q ≡ true
-      go true k = k
-      go false k =
-          let s = good-size w h e in
-          absurd (on-door-judged 1024 outline w h p q (s .wide) (s .high) .no k on)
+  full-door p q e f =
+      let s = good-size w h e in
+      full-on-door 1024 outline w h p q full (lit< tt) (s .wide) (s .high) f
 
   module _ (net : List ℤ) (p q : ℕ) (short : Bool) where
     abbrev afterTwo : ℕ
@@ -87,8 +46,8 @@ module _ (outline : List ℕ) (w h : ℕ) (full : Full outline w h) where
     full-point-refusal : outlinedPointRefusal net w h outline p q short ≡ pointRefusalWith net w h p q short
     full-point-refusal =
         cond-else (badSize w h) 1 (λ e₁. cond-else (noPlace 1024 w h p q) 6 (λ e₆. λ t.
-        cond (or-false (shortNet net w h) (full .long) t) 2
-        (cond (full-bytes t) 13 (cond (not (full-door p q e₁ e₆ t)) 15 afterTwo))))
+        cond (full-two outline w h full (shortNet net w h) t) 2
+        (cond (full-bytes outline w h full t) 13 (cond (not (full-door p q e₁ e₆ t)) 15 afterTwo))))
 
   module _ (net : List ℤ) (i j down : ℕ) (kind : down ≤ 1) (room : ℕ) where
     abbrev afterNetTwo : ℕ
@@ -98,7 +57,7 @@ module _ (outline : List ℕ) (w h : ℕ) (full : Full outline w h) where
         outlinedBezierRefusal net w h outline i j down room ≡ bezierRefusal net w h i j (eqb down 1) room
     full-bezier-refusal =
         let asked : (noTriangle w h i j || ltb 1 down) ≡ noTriangle w h i j =
-        or-false (noTriangle w h i j) (le-ltb 1 down kind) in
+        ap (λ (b : Bool). noTriangle w h i j || b) (le-ltb 1 down kind) ∙ or-false (noTriangle w h i j) in
         (λ t. cond (badSize w h) 1
         (cond (asked t) 6
         (cond (shortNet net w h || shortOutline outline w h) 2
@@ -107,8 +66,9 @@ module _ (outline : List ℕ) (w h : ℕ) (full : Full outline w h) where
         let g = cell-in-grid w h i j e₁ e₆ in
         let o : OfNet w h (triangleBy i j down) = (omega (arith, g .column), omega (arith, g .row)) in
         λ t.
-        cond (or-false (shortNet net w h) (full .long) t) 2
-        (cond (full-bytes t) 13 (cond (not (full-present (triangleBy i j down) o t)) 15 afterNetTwo))))
+        cond (full-two outline w h full (shortNet net w h) t) 2
+        (cond (full-bytes outline w h full t) 13
+        (cond (not (full-present outline w h full (triangleBy i j down) o t)) 15 afterNetTwo))))
 
 pub full-point : FullOutlinePoints
 unfolding outlinedPointAnswer pointAnswer

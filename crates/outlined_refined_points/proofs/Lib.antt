@@ -1,4 +1,6 @@
--- Laws of refining with an outline and then a point.
+-- Laws of refining with an outline and then a point, and demand 3 on the door.
 pub mod EdgeCounts
 pub mod CallLaws
 pub mod DoorPoints
+pub mod FullOutlines
+pub mod CutOutlines
