@@ -1,15 +1,15 @@
 -- From the rows before 5 and the plain call's answer to the answer with an outline.
 use mathlib.Core.Path.{_≡_, ap, _∙_}
 use mathlib.Core.Bool.{Bool, false, cond}
-use mathlib.Core.List.{List, [], _∷_}
+use mathlib.Core.List.{List, [], _∷_, _++_}
 use Prim.Native.Nat.{ℕ}
-use lib.Dec.{ltb, eqb}
+use lib.Dec.{ltb, eqb, lit<}
 use lib.IntN.{ℤ}
 use lib.Ieee.{Float}
 use lib.ListN.{length}
 use Rattle.exact.specs.Filling.{over}
 use Rattle.net.specs.Refusals.{Fault, firstFault, accepted, outputAfter}
-use Rattle.net.proofs.Faults.{Clear, fault-before, refused-answer, not-carried-out, when-refused}
+use Rattle.net.proofs.Faults.{Clear, none-clear, fault-before, refused-answer, not-carried-out, when-refused}
 use Rattle.places.specs.Places.{chosen}
 use Rattle.triangles.specs.Refusals.{triangleBeyond}
 use Rattle.bezier.specs.BezierNet.{bezierNumbers}
@@ -63,6 +63,14 @@ module _ (net : List ℤ) (w h : ℕ) (outline : List ℕ) (p q : ℕ) (short : 
   plain-view e z f =
       let same = refusal-is e z in
       f ∙ (λ t. (same t, cond (accepted (same t)) (viewPoint net w h p q) []))
+
+  -- and an output lent for it is long enough where nothing is refused
+  pub point-fits : outlinedPointRefusal net w h outline p q short ≡ 0 → short ≡ false
+  point-fits e =
+      let rows =
+      none-clear (pointFaults net w h outline p q ++ lastRows)
+      (lit< tt, (lit< tt, (lit< tt, (lit< tt, (lit< tt, (lit< tt, (lit< tt, tt))))))) e in
+      rows .1 .1 .1 .1 .1 .0
 
 module _ (net : List ℤ) (w h : ℕ) (outline : List ℕ) (i j down : ℕ) where
   abbrev lastNetRows : ℕ → List Fault

@@ -1,7 +1,7 @@
 -- What is known where no fault before 14 is there, and the contract from plain refining and its point.
-use mathlib.Core.Path.{_≡_, refl, sym, ap, subst, _∙_}
-use mathlib.Core.Bool.{Bool, false, cond, _||_}
-use mathlib.Core.List.{List, [], _∷_, _++_}
+use mathlib.Core.Path.{_≡_, refl, _∙_}
+use mathlib.Core.Bool.{Bool, false, cond}
+use mathlib.Core.List.{List, [], _++_}
 use Prim.Native.Nat.{ℕ}
 use lib.Dec.{lit<}
 use lib.IntN.{ℤ}
@@ -13,8 +13,8 @@ use Rattle.outline.specs.Refusals.{freeSearch}
 use Rattle.refined_points.specs.Refusals.{offGrid}
 use Rattle.refined_points.specs.Answers.{refusalAt, refinedSurfacePoint}
 use Rattle.refined_points.specs.Contract.{RefinedPointContract}
-use Rattle.refined_points.specs.DemandThree.{Claimed}
 use Rattle.fine_outline.specs.FineOutline.{fineOutline}
+use Rattle.outlined_refine.specs.Refusals.{lateFaults}
 use Rattle.outlined_refine.specs.Answers.{shortOf}
 use Rattle.outlined_refine.proofs.CallLaws.{Searchable, searchable, left-refused, left-by}
 use Rattle.outlined_refined_points.specs.Answers.{pointFaultsOf, outlinedRefusalAt}
@@ -85,3 +85,11 @@ module _ (net : List ℤ) (w h k : ℕ) (outline : List ℕ) (p q : ℕ) (other 
             same (plain .output, plain .scratchFree) e u;
         demandThree = λ z. plain .demandThree (same ∙ z);
       }
+
+  -- the other lent output is long enough where nothing is refused
+  pub point-fits : refusal ≡ 0 → other ≡ false
+  point-fits e =
+      let rows =
+      none-clear (before ++ lateFaults net w h outline)
+      (lit< tt, (lit< tt, (lit< tt, (lit< tt, (lit< tt, (lit< tt, (lit< tt, (lit< tt, (lit< tt, tt))))))))) e in
+      or-none other (shortOf w h k out scratch fine search) (rows .1 .1 .1 .1 .1 .1 .0) .0

@@ -15,16 +15,20 @@ use Rattle.exact.specs.Filling.{over}
 use Rattle.exact.proofs.FillingLaws.{sets-over, take-over}
 use Rattle.exact.proofs.SignedCode.{reads-back}
 use Rattle.net.specs.Net.{triangleAt}
-use Rattle.net.specs.Refusals.{badSize, shortNet, accepted, outputAfter}
+use Rattle.net.specs.Refusals.{Fault, badSize, shortNet, accepted, outputAfter}
 use Rattle.net.proofs.Faults.{or-second, answered, not-accepted, cond-true, cond-false, when-refused}
 use Rattle.triangles.specs.Refusals.{triangleBeyond}
 use Rattle.bezier.specs.BezierNet.{bezierNumbers}
 use Rattle.bezier.specs.Answers.{bezierOutput}
 use Rattle.bezier.specs.Refusals.{noTriangle, bezierRefusal}
 use Rattle.surface.proofs.SurfacePoints.{point-fits}
+use Rattle.outlined_points.specs.Refusals.{triangleBy, outlinedBezierRefusal}
+use Rattle.outlined_points.specs.Answers.{outlinedBezierOutput}
+use Rattle.outlined_points.proofs.Answers as outlined
 use Rattle.refine.proofs.CallLaws.{Left}
 use Rattle.refined_points.specs.DemandThree.{Claimed}
-use Rattle.ups.specs.Exports.{bezierExport, pointExport}
+use Rattle.outlined_refine.specs.Answers.{OutlinedLeft}
+use Rattle.ups.specs.Exports.{bezierExport, pointExport, outlinedPointExport}
 
 -- a test that is joined by one that fails
 or-false : (a : Bool) {b : Bool} → b ≡ false → a ≡ (a || b)
@@ -58,9 +62,25 @@ bezier-outcome net w h i j down out e k q = (
   q ∙ ap (λ (m : ℕ). outputAfter m (bezierNumbers net w (triangleAt i j (eqb down 1))) out) (sym k),
 )
 
+-- and with an outline
+pub outlined-bezier-outcome : (net : List ℤ) (w h : ℕ) (outline : List ℕ) (i j down : ℕ) (out : List ℤ) {n : ℕ}
+    {l : List ℤ} → n ≡ outlinedBezierRefusal net w h outline i j down (length out) →
+    l ≡ outlinedBezierOutput net w h outline i j down out →
+    (n ≡ outlinedBezierRefusal net w h outline i j down (length out))
+    × (l ≡ outputAfter n (bezierNumbers net w (triangleBy i j down)) out)
+unfolding outlinedBezierOutput
+outlined-bezier-outcome net w h outline i j down out k q =
+    (k, q ∙ ap (λ (m : ℕ). outputAfter m (bezierNumbers net w (triangleBy i j down)) out) (sym k))
+
 -- there is room for a point where nothing is refused
 pub point-room : (net : List ℤ) (w h p q room : ℕ) → pointExport net w h p q room ≡ 0 → 3 ≤ room
 point-room net w h p q room none = ltb-false room 3 (point-fits net w h p q (ltb room 3) none)
+
+-- and with an outline
+pub outlined-point-room : (net : List ℤ) (w h : ℕ) (outline : List ℕ) (p q room : ℕ) →
+    outlinedPointExport net w h outline p q room ≡ 0 → 3 ≤ room
+outlined-point-room net w h outline p q room none =
+    ltb-false room 3 (outlined.point-fits net w h outline p q (ltb room 3) none)
 
 -- three coordinates, out of the bits that hold them, over the front of an output
 pub stored-point : (x y z : ℤ) (out : List ℤ) {after : List ℤ} → mag x < 2 ^ 31 → mag y < 2 ^ 31 → mag z < 2 ^ 31 →
@@ -122,6 +142,14 @@ pub left-exported : (r k w h : ℕ) (result out scratch out′ scratch′ : List
     (n ≡ r) × Left n k w h result out scratch out′ scratch′
 left-exported r k w h result out scratch out′ scratch′ e l =
     (e, subst (λ (m : ℕ). Left m k w h result out scratch out′ scratch′) (sym e) l)
+
+-- the same with an outline
+pub outlined-left : (r : ℕ) (before : List Fault) (net : List ℤ) (w h k : ℕ) (outline : List ℕ) (out scratch : List ℤ)
+    (fine search : List ℕ) (out′ scratch′ : List ℤ) (fine′ search′ : List ℕ) {n : ℕ} → n ≡ r →
+    OutlinedLeft r before net w h k outline out scratch fine search out′ scratch′ fine′ search′ →
+    (n ≡ r) × OutlinedLeft n before net w h k outline out scratch fine search out′ scratch′ fine′ search′
+outlined-left r before net w h k outline out scratch fine search out′ scratch′ fine′ search′ e l =
+    (e, subst (λ (m : ℕ). OutlinedLeft m before net w h k outline out scratch fine search out′ scratch′ fine′ search′) (sym e) l)
 
 -- demand 3 of the numbers that an accepted call left in the point's output
 pub claimed-exported : (net : List ℤ) (w h k p q : ℕ) {r : ℕ} {outcome : ℕ × List ℤ}

@@ -1,18 +1,24 @@
--- The calls of document 01 for callers in C and Rust: an answer is document 01's number, 0 where the call is accepted,
--- and a result goes into a lent output, in whose place document 01's order has 5.
+-- The calls of document 01 and of document 02, a, for callers in C and Rust: an answer is a document's number, 0 where
+-- the call is accepted, and a result goes into a lent output, in whose place the document's order has 5.
 use mathlib.Core.Path.{_≡_, refl}
 use mathlib.Core.Bool.{true, false, _||_}
 use mathlib.Core.List.{List, [], _∷_}
 use Prim.Native.Nat.{ℕ, _-_}
 use lib.Dec.{ltb, eqb}
 use lib.IntN.{ℤ, pos}
-use lib.ListN.{length}
+use lib.ListN.{length, replicate}
 use Rattle.exact.specs.Filling.{runs}
 use Rattle.net.specs.Net.{Triangle, triangleAt, numbers, squares}
 use Rattle.net.specs.Refusals.{firstFault, badSize, shortNet, netBeyond, zeros, tooLarge, tooFew}
 use Rattle.triangles.specs.Refusals.{triangleBeyond}
 use Rattle.bezier.specs.Refusals.{noTriangle}
 use Rattle.surface.specs.Refusals.{pointRefusalWith}
+use Rattle.graphs.specs.Reaching.{reached, allReached}
+use Rattle.outline.specs.Connected.{connected}
+use Rattle.outline.specs.Refusals.{badByte}
+use Rattle.door.specs.Door.{onDoor}
+use Rattle.outlined_points.specs.Refusals.{outlinedPointRefusal}
+use Rattle.outlined_refined_points.specs.Answers.{outlinedRefusalAt}
 use Rattle.refined_points.specs.Answers.{refusalAt}
 use Rattle.words.specs.NetFile.{wordBytes, firstWord, pointBytes, netFile, fileSize, fileWidth, fileHeight}
 use Rattle.writer.specs.Refusals.{writeRefusal, noRoom}
@@ -39,6 +45,14 @@ pointExport net w h p q room = pointRefusalWith net w h p q (ltb room 3)
 -- of a refined point, 5 is of the output, of the scratch or of the point's three numbers
 abbrev pub refinedPointExport : List ℤ → ℕ → ℕ → ℕ → ℕ → ℕ → List ℤ → List ℤ → List ℤ → ℕ
 refinedPointExport net w h k p q out scratch point = refusalAt net w h k p q (ltb (length point) 3) out scratch
+
+-- document 02, a: both with an outline
+abbrev pub outlinedPointExport : List ℤ → ℕ → ℕ → List ℕ → ℕ → ℕ → ℕ → ℕ
+outlinedPointExport net w h outline p q room = outlinedPointRefusal net w h outline p q (ltb room 3)
+
+abbrev pub outlinedRefinedExport : List ℤ → ℕ → ℕ → ℕ → List ℕ → ℕ → ℕ → List ℤ → List ℤ → List ℕ → List ℕ → List ℤ → ℕ
+outlinedRefinedExport net w h k outline p q out scratch fine search point =
+    outlinedRefusalAt net w h k outline p q (ltb (length point) 3) out scratch fine search
 
 -- the count of bytes needs room for one number, and 5 is of either output
 abbrev pub writeExport : List ℤ → ℕ → ℕ → ℕ → ℕ → ℕ
@@ -101,6 +115,39 @@ refined-point-room :
     × (refinedPointExport (tooLarge (numbers 2 2 - 1)) 2 2 0 0 0 zeros [] (pos 7 ∷ pos 7 ∷ pos 7 ∷ []) ≡ 3)
 unfolding netBeyond
 refined-point-room = (refl, refl, refl, refl, refl)
+
+-- of that net with the up triangle of cell (1, 0) alone: a place in it, with room for two numbers and for three; the
+-- place with its numbers exchanged; the sides exchanged; and a place off the door
+abbrev oneUp : List ℕ
+oneUp = 0 ∷ 0 ∷ 1 ∷ 0 ∷ []
+
+outlined-points :
+    (outlinedPointExport net32 3 2 oneUp 1500 300 2 ≡ 5)
+    × (outlinedPointExport net32 3 2 oneUp 1500 300 3 ≡ 0)
+    × (outlinedPointExport net32 3 2 oneUp 300 1500 3 ≡ 6)
+    × (outlinedPointExport net32 2 3 oneUp 1500 300 3 ≡ 6)
+    × (outlinedPointExport net32 3 2 oneUp 700 600 3 ≡ 15)
+unfolding badByte onDoor
+outlined-points = (refl, refl, refl, refl, refl)
+
+-- after one step, with an output, a fine outline and a search of just the lengths that are needed: the same cases,
+-- where the room is the point's; and one number too few of the output, of the fine outline and of the search
+abbrev outlinedRefined : ℕ → ℕ → ℕ → ℕ → ℕ → ℕ → ℕ → ℕ → ℕ
+outlinedRefined w h p q room out fine search =
+    outlinedRefinedExport net32 w h 1 oneUp p q (replicate out (pos 7)) [] (replicate fine 7) (replicate search 9)
+    (replicate room (pos 8))
+
+outlined-refined-points :
+    (outlinedRefined 3 2 3000 600 2 135 16 4 ≡ 5)
+    × (outlinedRefined 3 2 3000 600 3 135 16 4 ≡ 0)
+    × (outlinedRefined 3 2 600 3000 3 135 16 4 ≡ 6)
+    × (outlinedRefined 2 3 3000 600 3 135 16 4 ≡ 6)
+    × (outlinedRefined 3 2 1400 1200 3 135 16 4 ≡ 15)
+    × (outlinedRefined 3 2 3000 600 3 134 16 4 ≡ 5)
+    × (outlinedRefined 3 2 3000 600 3 135 15 4 ≡ 5)
+    × (outlinedRefined 3 2 3000 600 3 135 16 3 ≡ 5)
+unfolding netBeyond badByte onDoor connected reached allReached runs
+outlined-refined-points = (refl, refl, refl, refl, refl, refl, refl, refl)
 
 write-order :
     (writeExport tooFew 1026 2 155 0 ≡ 1)

@@ -1,6 +1,6 @@
-// The static library: the calls of document 01 for C and Rust, which include/ups.h and rust/src/raw.rs declare. A slice
-// is a pointer and then a length; 0 is accepted, another number refuses. As in Rust, a slice that is lent to be written
-// overlaps no other.
+// The static library: the calls of document 01 and of document 02, a, for C and Rust, which include/ups.h and
+// rust/src/raw.rs declare. A slice is a pointer and then a length; 0 is accepted, another number refuses. As in Rust, a
+// slice that is lent to be written overlaps no other.
 use bezier::BezierAnswer;
 use bezier::bezier_net;
 use details::CleanAnswer;
@@ -10,6 +10,13 @@ use merge::merge;
 use net::bad_size;
 use net::store_point;
 use net::vertex_refusal;
+use outline::CheckAnswer;
+use outline::check_outline;
+use outlined_points::bezier_net_outlined;
+use outlined_points::surface_point_outlined_with;
+use outlined_points::view_point_outlined_with;
+use outlined_refine::refine_outlined;
+use outlined_refined_points::refined_point_outlined_with;
 use reader::ReadAnswer;
 use reader::read_with;
 use refine::RefineAnswer;
@@ -27,6 +34,7 @@ use writer::write_with;
 ghost use mathlib.Core.Path.{_≡_};
 ghost use mathlib.Core.List.{[], _∷_};
 ghost use Prim.Native.Nat.{_≤_};
+ghost use lib.Dec.{ltb};
 ghost use lib.ListN.{length, take};
 ghost use Rattle.exact.specs.Filling.{over, UnchangedFrom};
 ghost use Rattle.net.specs.Refusals.{outputAfter, vertexRefusal};
@@ -43,7 +51,11 @@ ghost use Rattle.details.specs.Cleaning.{cleanedDetails};
 ghost use Rattle.split.specs.Answers.{splitRefusalOf, splitCoarse, splitDetails};
 ghost use Rattle.merge.specs.Merge.{mergedNet};
 ghost use Rattle.merge.specs.Answers.{mergeRefusalOf};
-ghost use Rattle.ups.specs.Exports.{exportedTriangle, bezierExport, pointExport, refinedPointExport, writeExport, writtenCount, readExport, readSize};
+ghost use Rattle.outline.specs.Refusals.{checkFaults, checkRefusal, freeSearch};
+ghost use Rattle.outlined_points.specs.Refusals.{triangleBy, outlinedBezierRefusal};
+ghost use Rattle.outlined_refine.specs.Answers.{faultsOf, outlinedRefusalOf, OutlinedLeft};
+ghost use Rattle.outlined_refined_points.specs.Answers.{pointFaultsOf};
+ghost use Rattle.ups.specs.Exports.{exportedTriangle, bezierExport, pointExport, refinedPointExport, writeExport, writtenCount, readExport, readSize, outlinedPointExport, outlinedRefinedExport};
 
 // 1, 6, 2, or 0: the companion of the vertex part.
 #[no_mangle]
@@ -282,5 +294,174 @@ pub extern "C" fn ups_clean(details: &mut [i32], w: usize, h: usize, t: u32) -> 
     match answer {
         CleanAnswer::Done => 0,
         CleanAnswer::Refused(n) => n,
+    }
+}
+
+// Whether an outline can be taken for a net of width w and height h. Where none of 1, 2, 13 and 5 refuses, the first
+// numbers of `search`, one a triangle, are free afterwards.
+#[no_mangle]
+pub extern "C" fn ups_check_outline(outline: &[u8], w: usize, h: usize, search: &mut [u32]) -> u32
+    ensures { λ r. ⌜ r ≡ checkRefusal (now (outline .entry)) w h (length (now (search .entry))) ⌝ }
+    ensures { λ r. ⌜ UnchangedFrom (freeSearch (checkFaults (now (outline .entry)) w h (length (now (search .entry)))) w h)
+        (now (search .entry)) (now (search .exit)) ⌝ }
+{
+    let answer = check_outline(outline, w, h, search);
+    match answer {
+        CheckAnswer::Done => 0,
+        CheckAnswer::Refused(n) => n,
+    }
+}
+
+// The 57 numbers of a Bézier net of a present triangle into `out`.
+#[no_mangle]
+pub extern "C" fn ups_bezier_net_outlined(
+    net: &[i32],
+    w: usize,
+    h: usize,
+    outline: &[u8],
+    i: usize,
+    j: usize,
+    down: u32,
+    out: &mut [i32],
+) -> u32
+    ensures { λ r. ⌜ r ≡ outlinedBezierRefusal (now (net .entry)) w h (now (outline .entry)) i j down
+        (length (now (out .entry))) ⌝ }
+    ensures { λ r. ⌜ now (out .exit)
+        ≡ outputAfter r (bezierNumbers (now (net .entry)) w (triangleBy i j down)) (now (out .entry)) ⌝ }
+{
+    let answer = bezier_net_outlined(net, w, h, outline, i, j, down, out);
+    match answer {
+        BezierAnswer::Done => 0,
+        BezierAnswer::Refused(n) => n,
+    }
+}
+
+// The surface point at a place on the door into `out`.
+#[no_mangle]
+pub extern "C" fn ups_surface_point_outlined(
+    net: &[i32],
+    w: usize,
+    h: usize,
+    outline: &[u8],
+    p: usize,
+    q: usize,
+    out: &mut [i32],
+) -> u32
+    ensures { λ r. ⌜ r ≡ outlinedPointExport (now (net .entry)) w h (now (outline .entry)) p q
+        (length (now (out .entry))) ⌝ }
+    ensures { λ r. ⌜ now (out .exit) ≡ outputAfter r (surfacePoint (now (net .entry)) w h p q) (now (out .entry)) ⌝ }
+{
+    let answer = surface_point_outlined_with(net, w, h, outline, p, q, out.len() < 3);
+    match answer {
+        PointAnswer::At(point) => {
+            store_point([point.x, point.y, point.z], 0, out);
+            0
+        }
+        PointAnswer::Refused(n) => n,
+    }
+}
+
+// The viewer's point at a place on the door, in millimetres, into `out`.
+#[no_mangle]
+pub extern "C" fn ups_view_point_outlined(
+    net: &[i32],
+    w: usize,
+    h: usize,
+    outline: &[u8],
+    p: usize,
+    q: usize,
+    out: &mut [f64],
+) -> u32
+    ensures { λ r. ⌜ r ≡ outlinedPointExport (now (net .entry)) w h (now (outline .entry)) p q
+        (length (now (out .entry))) ⌝ }
+    ensures { λ r. ⌜ now (out .exit) ≡ outputAfter r (viewPoint (now (net .entry)) w h p q) (now (out .entry)) ⌝ }
+{
+    let answer = view_point_outlined_with(net, w, h, outline, p, q, out.len() < 3);
+    match answer {
+        ViewAnswer::At(point) => {
+            store_view(point, out);
+            0
+        }
+        ViewAnswer::Refused(n) => n,
+    }
+}
+
+// The net refined by k steps into `out`, and its outline into `fine`. `scratch` is as in `ups_refine`, and `search` as
+// in `ups_check_outline`: it is free after 14 and 3 too.
+#[no_mangle]
+pub extern "C" fn ups_refine_outlined(
+    net: &[i32],
+    w: usize,
+    h: usize,
+    k: usize,
+    outline: &[u8],
+    out: &mut [i32],
+    scratch: &mut [i32],
+    fine: &mut [u8],
+    search: &mut [u32],
+) -> u32
+    ensures { λ r. ⌜ r ≡ outlinedRefusalOf (now (net .entry)) w h k (now (outline .entry)) (now (out .entry))
+        (now (scratch .entry)) (now (fine .entry)) (now (search .entry)) ⌝ }
+    ensures { λ r. ⌜ OutlinedLeft r
+        (faultsOf (now (net .entry)) w h k (now (outline .entry)) (now (out .entry)) (now (scratch .entry))
+        (now (fine .entry)) (now (search .entry)))
+        (now (net .entry)) w h k (now (outline .entry)) (now (out .entry)) (now (scratch .entry)) (now (fine .entry))
+        (now (search .entry)) (now (out .exit)) (now (scratch .exit)) (now (fine .exit)) (now (search .exit)) ⌝ }
+{
+    let answer = refine_outlined(net, w, h, k, outline, out, scratch, fine, search);
+    match answer {
+        RefineAnswer::Done => 0,
+        RefineAnswer::Refused(number) => number,
+    }
+}
+
+// The same, and the surface point at place (p, q) of the refined net, a place on the door, into `point`. Its last
+// promise is demand 3.
+#[no_mangle]
+pub extern "C" fn ups_refined_point_outlined(
+    net: &[i32],
+    w: usize,
+    h: usize,
+    k: usize,
+    outline: &[u8],
+    p: usize,
+    q: usize,
+    out: &mut [i32],
+    scratch: &mut [i32],
+    fine: &mut [u8],
+    search: &mut [u32],
+    point: &mut [i32],
+) -> u32
+    ensures { λ r. ⌜ r ≡ outlinedRefinedExport (now (net .entry)) w h k (now (outline .entry)) p q (now (out .entry))
+        (now (scratch .entry)) (now (fine .entry)) (now (search .entry)) (now (point .entry)) ⌝ }
+    ensures { λ r. ⌜ OutlinedLeft r
+        (pointFaultsOf (now (net .entry)) w h k (now (outline .entry)) p q (ltb (length (now (point .entry))) 3)
+        (now (out .entry)) (now (scratch .entry)) (now (fine .entry)) (now (search .entry)))
+        (now (net .entry)) w h k (now (outline .entry)) (now (out .entry)) (now (scratch .entry)) (now (fine .entry))
+        (now (search .entry)) (now (out .exit)) (now (scratch .exit)) (now (fine .exit)) (now (search .exit)) ⌝ }
+    ensures { λ r. ⌜ now (point .exit)
+        ≡ outputAfter r (refinedSurfacePoint (now (net .entry)) w h k p q) (now (point .entry)) ⌝ }
+    ensures { λ r. ⌜ (r ≡ 0 → Claimed (now (net .entry)) w h k p q (r, take 3 (now (point .exit)))) ⌝ }
+{
+    let answer = refined_point_outlined_with(
+        net,
+        w,
+        h,
+        k,
+        outline,
+        p,
+        q,
+        point.len() < 3,
+        out,
+        scratch,
+        fine,
+        search,
+    );
+    match answer {
+        PointAnswer::At(at) => {
+            store_point([at.x, at.y, at.z], 0, point);
+            0
+        }
+        PointAnswer::Refused(n) => n,
     }
 }
