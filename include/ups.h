@@ -1,18 +1,19 @@
 /* ups: uniform Powell-Sabin surfaces on a triangular grid. A net of control triangles is a spline surface. The library
- * gives its Bezier nets and surface points, refines it, splits it into a coarse net and details, cleans details and
- * merges both again, and writes and reads the net file. Its functions are proved to meet their contracts; the static
- * inline ones of this header are tested against them. The repository's docs/REFERENCE.md has the formulas and the net
- * file. For C99 or later, and C++.
+ * gives its Bezier nets and surface points, refines it, both with an outline of the door and without, splits it into a
+ * coarse net and details, cleans details and merges both again, and writes and reads the net file. Its functions are
+ * proved to meet their contracts; the static inline ones of this header are tested against them. The repository's
+ * docs/REFERENCE.md has the formulas and the net file. For C99 or later, and C++.
  *
  * Slices. A slice x is a pointer x, then its length x_len in elements. A slice of length 0 may have a null pointer. A
  * slice that is written overlaps no other slice of the same call; slices that are only read may overlap.
  *
  * Answers. Every call answers UPS_ACCEPTED, or the number of its first fault in the order that its comment gives. After
- * a refusal nothing that was lent has changed. No call has a precondition except valid slices.
+ * a refusal nothing that was lent has changed but the search of a call with an outline, where its comment says so. No
+ * call has a precondition except valid slices.
  *
- * Memory. Nets, details and outputs may be longer than the lengths in a comment: numbers beyond those that count are
- * neither read nor changed, and nothing after a result changes. No call needs an initialisation, a heap or global
- * state; calls may run on several threads at once, each with its own outputs.
+ * Memory. Nets, details, outlines and outputs may be longer than the lengths in a comment: what is beyond those that
+ * count is neither read nor changed, and nothing after a result changes. No call needs an initialisation, a heap or
+ * global state; calls may run on several threads at once, each with its own outputs.
  *
  * Nets. Width w and height h count vertices; vertex (i, j) has column i and row j. Each has a control triangle c1, c2,
  * c3, each x, y, z, in units of 1/1024 mm, from -16,777,216 to 16,777,216. A net stores the vertices row by row, c1 to
@@ -21,7 +22,12 @@
  *
  * Grid. Cell (i, j) has an up triangle with the corners (i, j), (i+1, j), (i, j+1), and a down triangle with the
  * corners (i+1, j), (i, j+1), (i+1, j+1). A place (p, q) counts 1,024ths of an edge, UPS_EDGE, p up to 1024(w-1) and q
- * up to 1024(h-1). Values are rounded to the nearest whole number, halves upwards. */
+ * up to 1024(h-1). Values are rounded to the nearest whole number, halves upwards.
+ *
+ * Outlines. An outline says which triangles of a net are on the door: one byte a triangle, 1 present and 0 missing, row
+ * by row and cell by cell, up before down: byte 2(j(w-1) + i) is of the up triangle of cell (i, j), the next one of its
+ * down triangle. A place is on the door where some present triangle has it, edges included. Where a net is refined, the
+ * present triangles have to be connected by edges. */
 #ifndef UPS_H
 #define UPS_H
 
@@ -61,14 +67,17 @@ enum ups_refusal {
     UPS_TRAILING = 9,
     UPS_EVEN = 10,
     UPS_RESULT = 11,
-    UPS_THRESHOLD = 12
+    UPS_THRESHOLD = 12,
+    UPS_OUTLINE_BYTE = 13,
+    UPS_NOT_CONNECTED = 14,
+    UPS_OFF_DOOR = 15
 };
 
 static inline const char *ups_refusal_text(uint32_t refusal) {
     switch (refusal) {
     case UPS_ACCEPTED: return "accepted";
     case UPS_SIZE: return "a side of the net is below 2 or above 1,025";
-    case UPS_SHORT: return "the net or the details have fewer numbers than the size needs";
+    case UPS_SHORT: return "the net, the details or the outline are shorter than the size needs";
     case UPS_RANGE: return "a number is beyond its range";
     case UPS_DEPTH: return "more than 6 steps, or a refined side above 1,025";
     case UPS_ROOM: return "a lent output or scratch is too short";
@@ -79,6 +88,9 @@ static inline const char *ups_refusal_text(uint32_t refusal) {
     case UPS_EVEN: return "split and clean need odd sides";
     case UPS_RESULT: return "a number of the result is beyond the net range";
     case UPS_THRESHOLD: return "the threshold is above 33,554,432";
+    case UPS_OUTLINE_BYTE: return "a byte of the outline is neither 0 nor 1";
+    case UPS_NOT_CONNECTED: return "the present triangles are none, or not connected by edges";
+    case UPS_OFF_DOOR: return "the place or the triangle is off the door";
     default: return "not a refusal of this library";
     }
 }
@@ -109,6 +121,16 @@ static inline size_t ups_scratch_numbers(size_t w, size_t h, size_t k) {
 /* Numbers of a net. */
 static inline size_t ups_net_numbers(size_t w, size_t h) {
     return ups_refined_numbers(w, h, 0);
+}
+
+/* Triangles of the net of w by h after k steps: bytes of its outline. */
+static inline size_t ups_refined_triangles(size_t w, size_t h, size_t k) {
+    return ups_refined_numbers(w, h, k) == 0 ? 0 : 2 * (ups_side_after(w, k) - 1) * (ups_side_after(h, k) - 1);
+}
+
+/* Triangles of a net: bytes of its outline, and numbers of the search. */
+static inline size_t ups_triangles(size_t w, size_t h) {
+    return ups_refined_triangles(w, h, 0);
 }
 
 /* A side of the coarse net: (side + 1)/2 of an odd side. */
@@ -189,6 +211,63 @@ uint32_t ups_refine(const int32_t *net, size_t net_len, size_t w, size_t h, size
 uint32_t ups_refined_point(const int32_t *net, size_t net_len, size_t w, size_t h, size_t k, size_t p, size_t q,
                            int32_t *out, size_t out_len, int32_t *scratch, size_t scratch_len,
                            int32_t *point, size_t point_len);
+
+/* Whether an outline is one that refining takes.
+ * Refuses: UPS_SIZE, UPS_SHORT, UPS_OUTLINE_BYTE, UPS_ROOM (of search), UPS_NOT_CONNECTED.
+ * Lengths: outline and search ups_triangles(w, h).
+ * Writes: nothing but the first ups_triangles(w, h) numbers of search, which may be anything afterwards where the call
+ * is accepted or answers UPS_NOT_CONNECTED. */
+uint32_t ups_check_outline(const uint8_t *outline, size_t outline_len, size_t w, size_t h,
+                           uint32_t *search, size_t search_len);
+
+/* As ups_bezier_net, of a triangle that is present.
+ * Refuses: UPS_SIZE, UPS_PLACE, UPS_SHORT (of net or outline), UPS_OUTLINE_BYTE, UPS_OFF_DOOR (the triangle is
+ * missing), UPS_ROOM, UPS_RANGE (of the triangle's nine control points alone).
+ * Lengths: as ups_bezier_net, outline ups_triangles(w, h).
+ * Writes: as ups_bezier_net. */
+uint32_t ups_bezier_net_outlined(const int32_t *net, size_t net_len, size_t w, size_t h,
+                                 const uint8_t *outline, size_t outline_len, size_t i, size_t j, uint32_t down,
+                                 int32_t *out, size_t out_len);
+
+/* As ups_surface_point, at a place on the door. All bytes of the outline are tested, so the time grows with them.
+ * Refuses: UPS_SIZE, UPS_PLACE, UPS_SHORT (of net or outline), UPS_OUTLINE_BYTE, UPS_OFF_DOOR, UPS_ROOM, UPS_RANGE (of
+ * the nine control points of the place's triangle alone, also where that triangle is missing and another has the
+ * place).
+ * Lengths: as ups_surface_point, outline ups_triangles(w, h).
+ * Writes: as ups_surface_point. */
+uint32_t ups_surface_point_outlined(const int32_t *net, size_t net_len, size_t w, size_t h,
+                                    const uint8_t *outline, size_t outline_len, size_t p, size_t q,
+                                    int32_t *out, size_t out_len);
+
+/* The surface point of ups_surface_point_outlined in millimetres: each of its numbers divided by 1024.
+ * Refuses, lengths, writes: as ups_surface_point_outlined. */
+uint32_t ups_view_point_outlined(const int32_t *net, size_t net_len, size_t w, size_t h,
+                                 const uint8_t *outline, size_t outline_len, size_t p, size_t q,
+                                 double *out, size_t out_len);
+
+/* The net after k steps, as ups_refine gives it, and its outline: a triangle of it is present where it lies in a
+ * present triangle of the net. With k = 0 both are copies.
+ * Refuses: UPS_SIZE, UPS_DEPTH, UPS_SHORT (of net or outline), UPS_OUTLINE_BYTE, UPS_ROOM (of out, scratch, fine or
+ * search), UPS_NOT_CONNECTED, UPS_RANGE (of every vertex).
+ * Lengths: as ups_refine, outline and search ups_triangles(w, h), fine ups_refined_triangles(w, h, k).
+ * Writes: as ups_refine, and the first ups_refined_triangles(w, h, k) bytes of fine. The first ups_triangles(w, h)
+ * numbers of search may be anything afterwards where the call is accepted or answers UPS_NOT_CONNECTED or UPS_RANGE. */
+uint32_t ups_refine_outlined(const int32_t *net, size_t net_len, size_t w, size_t h, size_t k,
+                             const uint8_t *outline, size_t outline_len,
+                             int32_t *out, size_t out_len, int32_t *scratch, size_t scratch_len,
+                             uint8_t *fine, size_t fine_len, uint32_t *search, size_t search_len);
+
+/* The net after k steps and its outline, as ups_refine_outlined gives them, and the surface point at place (p, q) of
+ * that net, which is on the door, with the promise of ups_refined_point.
+ * Refuses: UPS_SIZE, UPS_DEPTH, UPS_PLACE (of the refined net), UPS_SHORT (of net or outline), UPS_OUTLINE_BYTE,
+ * UPS_OFF_DOOR, UPS_ROOM (of out, scratch, fine, search or point), UPS_NOT_CONNECTED, UPS_RANGE (of every vertex).
+ * Lengths: as ups_refine_outlined, point UPS_POINT.
+ * Writes: as ups_refine_outlined, and the first UPS_POINT numbers of point. */
+uint32_t ups_refined_point_outlined(const int32_t *net, size_t net_len, size_t w, size_t h, size_t k,
+                                    const uint8_t *outline, size_t outline_len, size_t p, size_t q,
+                                    int32_t *out, size_t out_len, int32_t *scratch, size_t scratch_len,
+                                    uint8_t *fine, size_t fine_len, uint32_t *search, size_t search_len,
+                                    int32_t *point, size_t point_len);
 
 /* The coarse net, of ups_coarse_side(w) by ups_coarse_side(h), and the details: the net minus one step of refining of
  * the coarse net. The details of vertices with even column and row are 0. Merging both gives the net again.

@@ -11,10 +11,17 @@
 //! - `clean`: the details of that net, of which half become 0. Each pass begins with the details
 //!   as they were; putting them back is not timed.
 //! - `write`, `read`: the file of a net of 1,025 by 1,025; `copy` copies the file's bytes.
+//!
+//! With an outline (`outlines.rs`): surface points and refining beside the library's own without
+//! one, where `15 alone` is a point refused by 15, which has tested all bytes, and `13 plain` that
+//! test in plain Rust; checking 1,025 by 1,025 beside a flood in plain Rust with a `Vec` for its
+//! stack; and the links that the library's search follows a triangle, counted in Rust.
 
+mod outlines;
 mod plain;
 mod plain_file;
 mod plain_multiresolution;
+mod plain_outline;
 mod plain_refine;
 
 use plain::{Refusal, LIMIT};
@@ -417,10 +424,10 @@ fn print_headings(unit: &str, others: &[&str]) {
 
 fn main() {
     let mut random = Random(1);
-    let net = random_net(&mut random, SIDE);
+    let starting = random_net(&mut random, SIDE);
     let subjects = [
-        surface_point(&net, &mut random),
-        bezier_net(&net, &mut random),
+        surface_point(&starting, &mut random),
+        bezier_net(&starting, &mut random),
     ];
     print_headings("ns per call", &["plain"]);
     for subject in subjects {
@@ -428,7 +435,7 @@ fn main() {
     }
     println!();
     print_headings("ms per net", &["table", "kinds", "copy"]);
-    let net = noisy(&refine(&net), &mut random);
+    let net = noisy(&refine(&starting), &mut random);
     let (coarse, details) = split(&net);
     assert!(merge(&coarse, &details) == net, "the nets differ");
     println!();
@@ -439,4 +446,6 @@ fn main() {
     let net = random_net(&mut random, FINE_SIDE);
     let file = write_file(&net);
     read_file(&file, &net);
+    println!();
+    outlines::measure(&starting, &mut random);
 }

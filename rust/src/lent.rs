@@ -1,7 +1,8 @@
 //! The calls on borrowed slices with lent outputs, for callers who allocate nothing.
 //!
-//! `net` begins with the numbers of a net of `w` by `h`. What follows them is neither read nor
-//! changed, and neither is what follows a result in its output. A refused call changes nothing.
+//! `net` begins with the numbers of a net of `w` by `h`, `outline` with the bytes of its outline.
+//! What follows them is neither read nor changed, and neither is what follows a result in its
+//! output. A refused call changes nothing but a search, where it says so.
 //! [`size`](crate::size) tells how long an output has to be.
 //!
 //! The errors of a call are given as constants of [`Refusal`], in the order in which the library
@@ -172,6 +173,157 @@ pub fn refined_point(
 ) -> Result<(), Refusal> {
     let refusal = raw::refined_point(net, w, h, k, p, q, out, scratch, point);
     Refusal::check(refusal)
+}
+
+/// Whether an outline of [`triangles`]`(w, h)` bytes is one that [`refine_outlined`] takes. The
+/// first [`triangles`]`(w, h)` numbers of `search` may hold anything afterwards where the outline
+/// is accepted or not connected.
+///
+/// # Errors
+///
+/// `SIZE`, `SHORT`, `OUTLINE_BYTE`, `ROOM`, `NOT_CONNECTED`.
+///
+/// ```
+/// use ups::{lent::check_outline, Refusal};
+///
+/// let mut search = [0; ups::triangles(3, 2)];
+/// assert_eq!(check_outline(&[1, 1, 1, 0], 3, 2, &mut search), Ok(()));
+/// // Both up triangles of the row meet at a vertex alone.
+/// let apart = check_outline(&[1, 0, 1, 0], 3, 2, &mut search);
+/// assert_eq!(apart, Err(Refusal::NOT_CONNECTED));
+/// ```
+///
+/// [`triangles`]: crate::triangles
+#[inline]
+pub fn check_outline(
+    outline: &[u8],
+    w: usize,
+    h: usize,
+    search: &mut [u32],
+) -> Result<(), Refusal> {
+    Refusal::check(raw::check_outline(outline, w, h, search))
+}
+
+/// As [`bezier_net`], of a triangle that is present in an outline of
+/// [`triangles`](crate::triangles)`(w, h)` bytes.
+///
+/// # Errors
+///
+/// `SIZE`, `PLACE`, `SHORT`, `OUTLINE_BYTE`, `OFF_DOOR`, `ROOM`, `RANGE`; the last of the
+/// triangle's nine control points alone.
+#[inline]
+pub fn bezier_net_outlined(
+    net: &[i32],
+    w: usize,
+    h: usize,
+    outline: &[u8],
+    i: usize,
+    j: usize,
+    down: bool,
+    out: &mut [i32],
+) -> Result<(), Refusal> {
+    let down = u32::from(down);
+    let refusal = raw::bezier_net_outlined(net, w, h, outline, i, j, down, out);
+    Refusal::check(refusal)
+}
+
+/// As [`surface_point`], at a place on the door that an outline of
+/// [`triangles`](crate::triangles)`(w, h)` bytes has. All these bytes are tested, so the time grows
+/// with them.
+///
+/// # Errors
+///
+/// `SIZE`, `PLACE`, `SHORT`, `OUTLINE_BYTE`, `OFF_DOOR`, `ROOM`, `RANGE`; the last of the nine
+/// control points of the place's triangle alone, also where that triangle is missing and another
+/// has the place.
+#[inline]
+pub fn surface_point_outlined(
+    net: &[i32],
+    w: usize,
+    h: usize,
+    outline: &[u8],
+    p: usize,
+    q: usize,
+    out: &mut [i32],
+) -> Result<(), Refusal> {
+    let refusal = raw::surface_point_outlined(net, w, h, outline, p, q, out);
+    Refusal::check(refusal)
+}
+
+/// The point of [`surface_point_outlined`] in millimetres: each coordinate as a double, divided by
+/// 1024.
+///
+/// # Errors
+///
+/// Those of [`surface_point_outlined`].
+#[inline]
+pub fn view_point_outlined(
+    net: &[i32],
+    w: usize,
+    h: usize,
+    outline: &[u8],
+    p: usize,
+    q: usize,
+    out: &mut [f64],
+) -> Result<(), Refusal> {
+    let refusal = raw::view_point_outlined(net, w, h, outline, p, q, out);
+    Refusal::check(refusal)
+}
+
+/// The net after k steps as [`refine`] gives it, and its outline into
+/// [`refined_triangles`]`(w, h, k)` bytes of `fine`: a triangle of the refined net is present where
+/// it lies in a present triangle of the net. `outline` and `search` have [`triangles`]`(w, h)`
+/// bytes and numbers; those of `search` may hold anything afterwards where the call is accepted or
+/// refused by `NOT_CONNECTED` or `RANGE`.
+///
+/// # Errors
+///
+/// `SIZE`, `DEPTH`, `SHORT`, `OUTLINE_BYTE`, `ROOM`, `NOT_CONNECTED`, `RANGE`; the last of every
+/// vertex.
+///
+/// [`refined_triangles`]: crate::refined_triangles
+/// [`triangles`]: crate::triangles
+#[inline]
+pub fn refine_outlined(
+    net: &[i32],
+    w: usize,
+    h: usize,
+    k: usize,
+    outline: &[u8],
+    out: &mut [i32],
+    scratch: &mut [i32],
+    fine: &mut [u8],
+    search: &mut [u32],
+) -> Result<(), Refusal> {
+    let refusal = raw::refine_outlined(net, w, h, k, outline, out, scratch, fine, search);
+    Refusal::check(refusal)
+}
+
+/// The net after k steps and its outline as [`refine_outlined`] gives them, and the surface point
+/// at place (p, q) of the refined net, which is on the door, into [`POINT`](crate::POINT) numbers
+/// of `point`, with the promise of [`refined_point`].
+///
+/// # Errors
+///
+/// `SIZE`, `DEPTH`, `PLACE`, `SHORT`, `OUTLINE_BYTE`, `OFF_DOOR`, `ROOM`, `NOT_CONNECTED`, `RANGE`.
+#[inline]
+pub fn refined_point_outlined(
+    net: &[i32],
+    w: usize,
+    h: usize,
+    k: usize,
+    outline: &[u8],
+    p: usize,
+    q: usize,
+    out: &mut [i32],
+    scratch: &mut [i32],
+    fine: &mut [u8],
+    search: &mut [u32],
+    point: &mut [i32],
+) -> Result<(), Refusal> {
+    Refusal::check(raw::refined_point_outlined(
+        net, w, h, k, outline, p, q, out, scratch, fine, search, point,
+    ))
 }
 
 /// The coarse net into [`coarse_numbers`]`(w, h)` numbers of `coarse`, and the details of the net

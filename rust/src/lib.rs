@@ -1,10 +1,11 @@
 //! Uniform Powell-Sabin surfaces on a triangular grid: a safe interface to the static library
 //! `ups`, whose calls are proved.
 //!
-//! - [`Net`] and [`Split`] own their numbers.
+//! - [`Net`], [`Door`] and [`Split`] own their numbers.
 //! - [`lent`] has the same calls on borrowed slices, for callers who allocate nothing, and
 //!   [`size`] the lengths of these slices.
-//! - [`Refusal`] is the error of every call. A refused call changes nothing that was lent to it.
+//! - [`Refusal`] is the error of every call. A refused call changes nothing that was lent to it,
+//!   but the search of a call with an outline.
 //! - [`raw`] declares the library's functions and has all `unsafe` code.
 //!
 //! Outside [`raw`], every function can be called with any arguments; none panics.
@@ -31,6 +32,11 @@
 //!
 //! A **place** (p, q) counts 1,024ths of an edge: p goes up to 1024(w-1) and q to 1024(h-1).
 //!
+//! An **outline** has one byte for each triangle, 1 where it is present and 0 where it is missing:
+//! row by row and cell by cell, up before down. A place is **on the door** where some present
+//! triangle has it, edges included. Where a net is refined, its present triangles have to be
+//! connected by edges.
+//!
 //! A **step** of refining halves every edge: w by h becomes 2w-1 by 2h-1. A net with odd sides
 //! **splits** into a **coarse** net, whose refinement has the size of the net again, and the
 //! **details** that this refinement lacks: [`DETAIL_RECORD`] numbers for each vertex, from
@@ -44,6 +50,7 @@
 // The functions have the library's parameters.
 #![allow(clippy::too_many_arguments)]
 
+pub mod door;
 pub mod lent;
 pub mod net;
 #[allow(unsafe_code)]
@@ -52,11 +59,12 @@ pub mod refusal;
 pub mod size;
 pub mod split;
 
+pub use door::Door;
 pub use net::Net;
 pub use refusal::Refusal;
 pub use size::{
     coarse_numbers, coarse_side, detail_numbers, file_bytes, file_numbers, net_numbers,
-    refined_numbers, scratch_numbers, side_after, BEZIER, DETAIL_RECORD, EDGE, FILE_WORDS,
-    GREATEST_DEPTH, GREATEST_SIDE, LEAST_SIDE, POINT, RECORD,
+    refined_numbers, refined_triangles, scratch_numbers, side_after, triangles, BEZIER,
+    DETAIL_RECORD, EDGE, FILE_WORDS, GREATEST_DEPTH, GREATEST_SIDE, LEAST_SIDE, POINT, RECORD,
 };
 pub use split::Split;

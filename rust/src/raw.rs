@@ -1,8 +1,8 @@
 //! The exports of the static library as they are, and all `unsafe` code of this crate.
 //!
 //! A slice is a pointer and then its length. The answer is 0, or the number of the call's first
-//! fault; then nothing that was lent has changed. [`Refusal::check`](crate::Refusal::check) makes
-//! a `Result` of it.
+//! fault; then nothing that was lent has changed but the search of a call with an outline.
+//! [`Refusal::check`](crate::Refusal::check) makes a `Result` of it.
 //!
 //! # Safety
 //!
@@ -110,6 +110,102 @@ extern "C" {
         out_len: usize,
         scratch: *mut i32,
         scratch_len: usize,
+        point: *mut i32,
+        point_len: usize,
+    ) -> u32;
+
+    /// [`lent::check_outline`](crate::lent::check_outline).
+    pub fn ups_check_outline(
+        outline: *const u8,
+        outline_len: usize,
+        w: usize,
+        h: usize,
+        search: *mut u32,
+        search_len: usize,
+    ) -> u32;
+
+    /// [`lent::bezier_net_outlined`](crate::lent::bezier_net_outlined). `down` is 0 or 1; another
+    /// number names no triangle: 6.
+    pub fn ups_bezier_net_outlined(
+        net: *const i32,
+        net_len: usize,
+        w: usize,
+        h: usize,
+        outline: *const u8,
+        outline_len: usize,
+        i: usize,
+        j: usize,
+        down: u32,
+        out: *mut i32,
+        out_len: usize,
+    ) -> u32;
+
+    /// [`lent::surface_point_outlined`](crate::lent::surface_point_outlined).
+    pub fn ups_surface_point_outlined(
+        net: *const i32,
+        net_len: usize,
+        w: usize,
+        h: usize,
+        outline: *const u8,
+        outline_len: usize,
+        p: usize,
+        q: usize,
+        out: *mut i32,
+        out_len: usize,
+    ) -> u32;
+
+    /// [`lent::view_point_outlined`](crate::lent::view_point_outlined).
+    pub fn ups_view_point_outlined(
+        net: *const i32,
+        net_len: usize,
+        w: usize,
+        h: usize,
+        outline: *const u8,
+        outline_len: usize,
+        p: usize,
+        q: usize,
+        out: *mut f64,
+        out_len: usize,
+    ) -> u32;
+
+    /// [`lent::refine_outlined`](crate::lent::refine_outlined).
+    pub fn ups_refine_outlined(
+        net: *const i32,
+        net_len: usize,
+        w: usize,
+        h: usize,
+        k: usize,
+        outline: *const u8,
+        outline_len: usize,
+        out: *mut i32,
+        out_len: usize,
+        scratch: *mut i32,
+        scratch_len: usize,
+        fine: *mut u8,
+        fine_len: usize,
+        search: *mut u32,
+        search_len: usize,
+    ) -> u32;
+
+    /// [`lent::refined_point_outlined`](crate::lent::refined_point_outlined).
+    pub fn ups_refined_point_outlined(
+        net: *const i32,
+        net_len: usize,
+        w: usize,
+        h: usize,
+        k: usize,
+        outline: *const u8,
+        outline_len: usize,
+        p: usize,
+        q: usize,
+        out: *mut i32,
+        out_len: usize,
+        scratch: *mut i32,
+        scratch_len: usize,
+        fine: *mut u8,
+        fine_len: usize,
+        search: *mut u32,
+        search_len: usize,
         point: *mut i32,
         point_len: usize,
     ) -> u32;
@@ -252,6 +348,140 @@ pub(crate) fn refined_point(
             out.len(),
             scratch.as_mut_ptr(),
             scratch.len(),
+            point.as_mut_ptr(),
+            point.len(),
+        )
+    }
+}
+
+#[inline]
+pub(crate) fn check_outline(outline: &[u8], w: usize, h: usize, search: &mut [u32]) -> u32 {
+    let (by, by_len) = (search.as_mut_ptr(), search.len());
+    // SAFETY: as said above.
+    unsafe { ups_check_outline(outline.as_ptr(), outline.len(), w, h, by, by_len) }
+}
+
+#[inline]
+pub(crate) fn bezier_net_outlined(
+    net: &[i32],
+    w: usize,
+    h: usize,
+    outline: &[u8],
+    i: usize,
+    j: usize,
+    down: u32,
+    out: &mut [i32],
+) -> u32 {
+    let (at, len) = (net.as_ptr(), net.len());
+    let (on, on_len) = (outline.as_ptr(), outline.len());
+    let (to, room) = (out.as_mut_ptr(), out.len());
+    // SAFETY: as said above.
+    unsafe { ups_bezier_net_outlined(at, len, w, h, on, on_len, i, j, down, to, room) }
+}
+
+#[inline]
+pub(crate) fn surface_point_outlined(
+    net: &[i32],
+    w: usize,
+    h: usize,
+    outline: &[u8],
+    p: usize,
+    q: usize,
+    out: &mut [i32],
+) -> u32 {
+    let (at, len) = (net.as_ptr(), net.len());
+    let (on, on_len) = (outline.as_ptr(), outline.len());
+    let (to, room) = (out.as_mut_ptr(), out.len());
+    // SAFETY: as said above.
+    unsafe { ups_surface_point_outlined(at, len, w, h, on, on_len, p, q, to, room) }
+}
+
+#[inline]
+pub(crate) fn view_point_outlined(
+    net: &[i32],
+    w: usize,
+    h: usize,
+    outline: &[u8],
+    p: usize,
+    q: usize,
+    out: &mut [f64],
+) -> u32 {
+    let (at, len) = (net.as_ptr(), net.len());
+    let (on, on_len) = (outline.as_ptr(), outline.len());
+    let (to, room) = (out.as_mut_ptr(), out.len());
+    // SAFETY: as said above.
+    unsafe { ups_view_point_outlined(at, len, w, h, on, on_len, p, q, to, room) }
+}
+
+#[inline]
+pub(crate) fn refine_outlined(
+    net: &[i32],
+    w: usize,
+    h: usize,
+    k: usize,
+    outline: &[u8],
+    out: &mut [i32],
+    scratch: &mut [i32],
+    fine: &mut [u8],
+    search: &mut [u32],
+) -> u32 {
+    // SAFETY: as said above.
+    unsafe {
+        ups_refine_outlined(
+            net.as_ptr(),
+            net.len(),
+            w,
+            h,
+            k,
+            outline.as_ptr(),
+            outline.len(),
+            out.as_mut_ptr(),
+            out.len(),
+            scratch.as_mut_ptr(),
+            scratch.len(),
+            fine.as_mut_ptr(),
+            fine.len(),
+            search.as_mut_ptr(),
+            search.len(),
+        )
+    }
+}
+
+#[inline]
+pub(crate) fn refined_point_outlined(
+    net: &[i32],
+    w: usize,
+    h: usize,
+    k: usize,
+    outline: &[u8],
+    p: usize,
+    q: usize,
+    out: &mut [i32],
+    scratch: &mut [i32],
+    fine: &mut [u8],
+    search: &mut [u32],
+    point: &mut [i32],
+) -> u32 {
+    // SAFETY: as said above.
+    unsafe {
+        ups_refined_point_outlined(
+            net.as_ptr(),
+            net.len(),
+            w,
+            h,
+            k,
+            outline.as_ptr(),
+            outline.len(),
+            p,
+            q,
+            out.as_mut_ptr(),
+            out.len(),
+            scratch.as_mut_ptr(),
+            scratch.len(),
+            fine.as_mut_ptr(),
+            fine.len(),
+            search.as_mut_ptr(),
+            search.len(),
             point.as_mut_ptr(),
             point.len(),
         )

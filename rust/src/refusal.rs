@@ -17,7 +17,7 @@ pub struct Refusal(u32);
 impl Refusal {
     /// 1: a side is below 2 or above 1,025, as in a net of 1 by 2.
     pub const SIZE: Refusal = Refusal(1);
-    /// 2: there are too few numbers, as 35 for a net of 2 by 2.
+    /// 2: there are too few numbers or bytes, as 35 numbers for a net of 2 by 2.
     pub const SHORT: Refusal = Refusal(2);
     /// 3: a number lies outside its range, as an x of 16,777,217.
     pub const RANGE: Refusal = Refusal(3);
@@ -40,6 +40,14 @@ impl Refusal {
     pub const RESULT: Refusal = Refusal(11);
     /// 12: the threshold is too great, as 33,554,433.
     pub const THRESHOLD: Refusal = Refusal(12);
+    /// 13: a byte of the outline is above 1, as 2.
+    pub const OUTLINE_BYTE: Refusal = Refusal(13);
+    /// 14: the outline has no present triangle, or edges do not connect those that it has, as two
+    /// that meet at a vertex alone.
+    pub const NOT_CONNECTED: Refusal = Refusal(14);
+    /// 15: no present triangle has the place, or the triangle is missing, as any where all bytes of
+    /// the outline are 0.
+    pub const OFF_DOOR: Refusal = Refusal(15);
 
     /// What an answer of a function of [`raw`](crate::raw) says: 0 is accepted.
     #[inline]
@@ -60,7 +68,7 @@ impl fmt::Display for Refusal {
     fn fmt(&self, to: &mut fmt::Formatter) -> fmt::Result {
         to.pad(match *self {
             Refusal::SIZE => "a side of the net is below 2 or above 1,025",
-            Refusal::SHORT => "the net or the details have fewer numbers than the size needs",
+            Refusal::SHORT => "the net, the details or the outline are shorter than the size needs",
             Refusal::RANGE => "a number is beyond its range",
             Refusal::DEPTH => "more than 6 steps, or a refined side above 1,025",
             Refusal::ROOM => "a lent output or scratch is too short",
@@ -71,6 +79,9 @@ impl fmt::Display for Refusal {
             Refusal::EVEN => "split and clean need odd sides",
             Refusal::RESULT => "a number of the result is beyond the net range",
             Refusal::THRESHOLD => "the threshold is above 33,554,432",
+            Refusal::OUTLINE_BYTE => "a byte of the outline is neither 0 nor 1",
+            Refusal::NOT_CONNECTED => "the present triangles are none, or not connected by edges",
+            Refusal::OFF_DOOR => "the place or the triangle is off the door",
             _ => "not a refusal of this library",
         })
     }

@@ -96,6 +96,32 @@ pub const fn scratch_numbers(w: usize, h: usize, k: usize) -> usize {
     }
 }
 
+/// The triangles of a net of w by h: the bytes of its outline, and the numbers of the search. 0
+/// where a side is out of range.
+///
+/// ```
+/// assert_eq!(ups::triangles(3, 2), 4);
+/// assert_eq!(ups::triangles(3, 1), 0);
+/// ```
+pub const fn triangles(w: usize, h: usize) -> usize {
+    if is_side(w) && is_side(h) {
+        2 * (w - 1) * (h - 1)
+    } else {
+        0
+    }
+}
+
+/// The triangles of a net of w by h after k steps: the bytes of its outline. 0 where the steps are
+/// refused.
+///
+/// ```
+/// assert_eq!(ups::refined_triangles(3, 2, 2), 64);
+/// assert_eq!(ups::refined_triangles(18, 2, 6), 0);
+/// ```
+pub const fn refined_triangles(w: usize, h: usize, k: usize) -> usize {
+    triangles(side_after(w, k), side_after(h, k))
+}
+
 /// The bytes of the file of a net of w by h; 0 where a side is out of range.
 ///
 /// ```

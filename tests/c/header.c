@@ -87,6 +87,52 @@ static void check_steps(size_t w, size_t h, size_t k) {
     free(net);
 }
 
+/* Bytes that are all 1: an outline in which every triangle is present. */
+static uint8_t *ones(size_t count) {
+    uint8_t *bytes = (uint8_t *)lend(count, 1);
+    for (size_t n = 0; n < count; n++) {
+        bytes[n] = 1;
+    }
+    return bytes;
+}
+
+static void check_outline_sizes(size_t w, size_t h) {
+    size_t n = ups_triangles(w, h);
+    uint8_t *outline = ones(n);
+    uint32_t *search = (uint32_t *)lend(n, sizeof(uint32_t));
+    about("outline", w, h, 0);
+    check(n == ups_refined_triangles(w, h, 0), "no steps");
+    check(ups_check_outline(outline, n, w, h, search, n) == UPS_ACCEPTED, "outline and search");
+    check(ups_check_outline(outline, n - 1, w, h, search, n) == UPS_SHORT, "a shorter outline");
+    check(ups_check_outline(outline, n, w, h, search, n - 1) == UPS_ROOM, "a shorter search");
+    free(search);
+    free(outline);
+}
+
+static void check_outlined_steps(size_t w, size_t h, size_t k) {
+    size_t n = ups_net_numbers(w, h), m = ups_triangles(w, h), bytes = ups_refined_triangles(w, h, k);
+    size_t refined = ups_refined_numbers(w, h, k), rest = ups_scratch_numbers(w, h, k);
+    int32_t *net = numbers(n), *out = numbers(refined), *scratch = numbers(rest);
+    uint8_t *outline = ones(m), *fine = (uint8_t *)lend(bytes, 1);
+    uint32_t *search = (uint32_t *)lend(m, sizeof(uint32_t));
+    about("steps with an outline", w, h, k);
+    check(ups_refine_outlined(net, n, w, h, k, outline, m, out, refined, scratch, rest, fine, bytes, search, m) ==
+          (bytes == 0 ? UPS_DEPTH : UPS_ACCEPTED), "all lengths");
+    for (size_t at = 0; at < bytes; at++) {
+        check(fine[at] == 1, "a missing fine triangle");
+    }
+    check(bytes == 0 || ups_refine_outlined(net, n, w, h, k, outline, m, out, refined, scratch, rest, fine, bytes - 1,
+                                            search, m) == UPS_ROOM, "a shorter fine outline");
+    check(bytes == 0 || ups_refine_outlined(net, n, w, h, k, outline, m, out, refined, scratch, rest, fine, bytes,
+                                            search, m - 1) == UPS_ROOM, "a shorter search");
+    free(search);
+    free(fine);
+    free(outline);
+    free(scratch);
+    free(out);
+    free(net);
+}
+
 static void check_merge_sizes(size_t w, size_t h, int32_t *coarse, int32_t *details) {
     size_t n = ups_net_numbers(w, h), merged = ups_refined_numbers(w, h, 1);
     size_t rest = ups_detail_numbers(ups_side_after(w, 1), ups_side_after(h, 1));
@@ -123,10 +169,13 @@ static void check_split_sizes(size_t w, size_t h) {
 static void check_sizes(size_t w, size_t h) {
     check_file_sizes(w, h);
     check_split_sizes(w, h);
+    check_outline_sizes(w, h);
     for (size_t k = 0; k <= UPS_GREATEST_DEPTH + 1; k++) {
         check_steps(w, h, k);
+        check_outlined_steps(w, h, k);
     }
     check_steps(w, h, SIZE_MAX);
+    check_outlined_steps(w, h, SIZE_MAX);
 }
 
 /* One side is refused at least, so the library refuses both without a net, and every size is 0. */
@@ -138,7 +187,9 @@ static void check_refused(size_t w, size_t h) {
         check(ups_side_after(w, k) == 0 || ups_side_after(h, k) == 0, "ups_side_after");
         check(ups_refined_numbers(w, h, k) == 0, "ups_refined_numbers");
         check(ups_scratch_numbers(w, h, k) == 0, "ups_scratch_numbers");
+        check(ups_refined_triangles(w, h, k) == 0, "ups_refined_triangles");
     }
+    check(ups_triangles(w, h) == 0, "ups_triangles");
     check(ups_file_bytes(w, h) == 0, "ups_file_bytes");
     check(ups_coarse_side(w) == 0 || ups_coarse_side(h) == 0, "ups_coarse_side");
     check(ups_coarse_numbers(w, h) == 0, "ups_coarse_numbers");
@@ -232,7 +283,7 @@ static void check_vertices(void) {
 
 static void check_texts(void) {
     const char *other = "not a refusal of this library";
-    for (uint32_t a = 0; a <= UPS_THRESHOLD; a++) {
+    for (uint32_t a = 0; a <= UPS_OFF_DOOR; a++) {
         about("sentence", 0, 0, a);
         check(ups_refusal_text(a)[0] != '\0', "empty");
         check(strcmp(ups_refusal_text(a), other) != 0, "not a refusal's");
@@ -240,7 +291,7 @@ static void check_texts(void) {
             check(strcmp(ups_refusal_text(a), ups_refusal_text(b)) != 0, "another refusal's");
         }
     }
-    check(strcmp(ups_refusal_text(UPS_THRESHOLD + 1), other) == 0, "of 13");
+    check(strcmp(ups_refusal_text(UPS_OFF_DOOR + 1), other) == 0, "of 16");
     check(strcmp(ups_refusal_text(UINT32_MAX), other) == 0, "of the greatest number");
 }
 
@@ -251,12 +302,15 @@ enum {
     DETAILS = SIDE * SIDE * UPS_DETAIL_RECORD,
     COARSE = 2 * 2 * UPS_RECORD,
     FINER = 5 * 5 * UPS_RECORD,
+    TRIANGLES = 2 * 2 * 2,
+    FINER_TRIANGLES = 2 * 4 * 4,
     BYTES = 4 * (SIDE * SIDE * UPS_FILE_WORDS + 3)
 };
 
 static int32_t net[NUMBERS], coarse[COARSE], details[DETAILS], finer[FINER], bezier[UPS_BEZIER], at[UPS_POINT];
 static double view[UPS_POINT];
-static uint8_t file[BYTES + 1];
+static uint8_t file[BYTES + 1], outline[TRIANGLES] = {1, 1, 1, 1, 1, 1, 1, 1}, fine[FINER_TRIANGLES];
+static uint32_t search[TRIANGLES];
 static uint64_t written[1], size[2];
 
 /* The lengths of a point and of a Bezier net, exactly. */
@@ -270,6 +324,46 @@ static void check_lengths(void) {
     check(ups_view_point(net, NUMBERS, SIDE, SIDE, 0, 0, view, UPS_POINT - 1) == UPS_ROOM, "view_point, less");
     check(ups_refined_point(net, NUMBERS, SIDE, SIDE, 0, 0, 0, finer, FINER, NULL, 0, at, UPS_POINT - 1) == UPS_ROOM,
           "refined_point, less");
+    check(ups_bezier_net_outlined(net, NUMBERS, SIDE, SIDE, outline, TRIANGLES, 1, 1, 1, bezier, UPS_BEZIER - 1) ==
+          UPS_ROOM, "bezier_net_outlined, less");
+    check(ups_surface_point_outlined(net, NUMBERS, SIDE, SIDE, outline, TRIANGLES, 0, 0, at, UPS_POINT - 1) ==
+          UPS_ROOM, "surface_point_outlined, less");
+    check(ups_view_point_outlined(net, NUMBERS, SIDE, SIDE, outline, TRIANGLES, 0, 0, view, UPS_POINT - 1) ==
+          UPS_ROOM, "view_point_outlined, less");
+    check(ups_refined_point_outlined(net, NUMBERS, SIDE, SIDE, 0, outline, TRIANGLES, 0, 0, finer, FINER, NULL, 0,
+                                     fine, FINER_TRIANGLES, search, TRIANGLES, at, UPS_POINT - 1) == UPS_ROOM,
+          "refined_point_outlined, less");
+}
+
+/* Calls with an outline from which the down triangle of cell (1, 1) is missing, byte 7. */
+static void check_outlined(void) {
+    const uint8_t last = outline[TRIANGLES - 1];
+    about("outlined", SIDE, SIDE, 0);
+    outline[TRIANGLES - 1] = 0;
+    check(ups_check_outline(outline, TRIANGLES, SIDE, SIDE, search, TRIANGLES) == UPS_ACCEPTED, "check");
+    check(ups_bezier_net_outlined(net, NUMBERS, SIDE, SIDE, outline, TRIANGLES, 1, 1, 0, bezier, UPS_BEZIER) ==
+          UPS_ACCEPTED, "a present triangle");
+    check(ups_bezier_net_outlined(net, NUMBERS, SIDE, SIDE, outline, TRIANGLES, 1, 1, 1, bezier, UPS_BEZIER) ==
+          UPS_OFF_DOOR, "a missing triangle");
+    check(ups_surface_point_outlined(net, NUMBERS, SIDE, SIDE, outline, TRIANGLES, 2048, 1024, at, UPS_POINT) ==
+          UPS_ACCEPTED, "a place on the door");
+    check(ups_surface_point_outlined(net, NUMBERS, SIDE, SIDE, outline, TRIANGLES, 2048, 1025, at, UPS_POINT) ==
+          UPS_OFF_DOOR, "a place off the door");
+    check(ups_view_point_outlined(net, NUMBERS, SIDE, SIDE, outline, TRIANGLES, 2048, 1024, view, UPS_POINT) ==
+          UPS_ACCEPTED, "a viewer's point on the door");
+    check(ups_refine_outlined(net, NUMBERS, SIDE, SIDE, 1, outline, TRIANGLES, finer, FINER, NULL, 0, fine,
+                              FINER_TRIANGLES, search, TRIANGLES) == UPS_ACCEPTED && fine[FINER_TRIANGLES - 1] == 0 &&
+          fine[FINER_TRIANGLES - 2] == 0 && fine[FINER_TRIANGLES - 3] == 0 && fine[0] == 1, "refining");
+    check(ups_refined_point_outlined(net, NUMBERS, SIDE, SIDE, 1, outline, TRIANGLES, 4096, 2048, finer, FINER, NULL, 0,
+                                     fine, FINER_TRIANGLES, search, TRIANGLES, at, UPS_POINT) == UPS_ACCEPTED,
+          "a refined point on the door");
+    outline[TRIANGLES - 1] = 2;
+    check(ups_check_outline(outline, TRIANGLES, SIDE, SIDE, search, TRIANGLES) == UPS_OUTLINE_BYTE, "a byte above 1");
+    outline[TRIANGLES - 1] = 1;
+    outline[TRIANGLES - 2] = 0;
+    check(ups_check_outline(outline, TRIANGLES, SIDE, SIDE, search, TRIANGLES) == UPS_NOT_CONNECTED, "not connected");
+    outline[TRIANGLES - 2] = 1;
+    outline[TRIANGLES - 1] = last;
 }
 
 /* The refusals that nothing else here meets, so that every name has the library's number. */
@@ -315,6 +409,33 @@ static void check_null_refining(void) {
           "refined_point, point");
 }
 
+static void check_null_outline(void) {
+    about("null slice of an outline", SIDE, SIDE, 0);
+    check(ups_check_outline(NULL, 0, SIDE, SIDE, search, TRIANGLES) == UPS_SHORT, "check_outline, outline");
+    check(ups_check_outline(outline, TRIANGLES, SIDE, SIDE, NULL, 0) == UPS_ROOM, "check_outline, search");
+    check(ups_bezier_net_outlined(net, NUMBERS, SIDE, SIDE, NULL, 0, 0, 0, 0, bezier, UPS_BEZIER) == UPS_SHORT,
+          "bezier_net_outlined, outline");
+    check(ups_surface_point_outlined(net, NUMBERS, SIDE, SIDE, NULL, 0, 0, 0, at, UPS_POINT) == UPS_SHORT,
+          "surface_point_outlined, outline");
+    check(ups_view_point_outlined(net, NUMBERS, SIDE, SIDE, NULL, 0, 0, 0, view, UPS_POINT) == UPS_SHORT,
+          "view_point_outlined, outline");
+    check(ups_refine_outlined(net, NUMBERS, SIDE, SIDE, 1, NULL, 0, finer, FINER, NULL, 0, fine, FINER_TRIANGLES,
+                              search, TRIANGLES) == UPS_SHORT, "refine_outlined, outline");
+    check(ups_refine_outlined(net, NUMBERS, SIDE, SIDE, 1, outline, TRIANGLES, finer, FINER, NULL, 0, NULL, 0,
+                              search, TRIANGLES) == UPS_ROOM, "refine_outlined, fine");
+    check(ups_refine_outlined(net, NUMBERS, SIDE, SIDE, 1, outline, TRIANGLES, finer, FINER, NULL, 0, fine,
+                              FINER_TRIANGLES, NULL, 0) == UPS_ROOM, "refine_outlined, search");
+    check(ups_refined_point_outlined(net, NUMBERS, SIDE, SIDE, 1, NULL, 0, 0, 0, finer, FINER, NULL, 0, fine,
+                                     FINER_TRIANGLES, search, TRIANGLES, at, UPS_POINT) == UPS_SHORT,
+          "refined_point_outlined, outline");
+    check(ups_refined_point_outlined(net, NUMBERS, SIDE, SIDE, 1, outline, TRIANGLES, 0, 0, finer, FINER, NULL, 0,
+                                     NULL, 0, search, TRIANGLES, at, UPS_POINT) == UPS_ROOM,
+          "refined_point_outlined, fine");
+    check(ups_refined_point_outlined(net, NUMBERS, SIDE, SIDE, 1, outline, TRIANGLES, 0, 0, finer, FINER, NULL, 0,
+                                     fine, FINER_TRIANGLES, search, TRIANGLES, NULL, 0) == UPS_ROOM,
+          "refined_point_outlined, point");
+}
+
 static void check_null_details(void) {
     about("null slice of details", SIDE, SIDE, 0);
     check(ups_split(NULL, 0, SIDE, SIDE, coarse, COARSE, details, DETAILS) == UPS_SHORT, "split, net");
@@ -344,8 +465,10 @@ int main(void) {
     check_texts();
     check_lengths();
     check_other_refusals();
+    check_outlined();
     check_null_points();
     check_null_refining();
+    check_null_outline();
     check_null_details();
     check_null_file();
     return failures > 0;

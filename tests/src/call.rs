@@ -1,13 +1,16 @@
 //! A call described as data, so that faults can be put into it one by one and the library and
-//! the oracle get the same question.
+//! the oracle get the same question. `outlined` has the calls with an outline.
 
-use crate::kernel::{self, LentDetails, LentFile, LentNet, RefinedPoint, Room};
+mod outlined;
+
+use crate::kernel::{self, LentDetails, LentFile, LentNet, RefinedDoor, RefinedPoint, Room};
 use crate::multiresolution::{self, Split};
 use crate::netfile::{self, FileNet};
 use crate::nets::{self, Numbers};
 use crate::oracle::{self, Faults, POINT_NUMBERS};
 use crate::random::Random;
 use crate::refinement;
+pub use outlined::{outlined_asks, Outlined};
 use std::fmt;
 
 #[derive(Clone, Copy, Debug, PartialEq, Eq)]
@@ -50,6 +53,8 @@ pub enum Ask {
     Clean {
         t: u32,
     },
+    /// Of an outline alone.
+    Check,
 }
 
 impl Ask {
@@ -121,6 +126,8 @@ pub struct Call {
     pub out_len: usize,
     /// Empty but for merge.
     pub details: Vec<i32>,
+    /// For checking, and where the call is the one with an outline.
+    pub outline: Option<Outlined>,
 }
 
 #[derive(Clone, Debug, PartialEq, Eq)]
@@ -132,6 +139,7 @@ pub enum Answer {
     DoubleBits(Vec<u64>),
     Refined(RefinedPoint),
     Split(Split),
+    Door(RefinedDoor),
 }
 
 impl Answer {
@@ -168,7 +176,11 @@ impl fmt::Debug for Call {
         let (len, w, h) = (self.net.len(), self.w, self.h);
         let (ask, out_len, details) = (self.ask, self.out_len, self.details.len());
         write!(to, "{ask:?} on {w} by {h}, {len} numbers, output {out_len}")?;
-        write!(to, ", {details} details")
+        write!(to, ", {details} details")?;
+        match &self.outline {
+            Some(outline) => write!(to, ", {outline:?}"),
+            None => Ok(()),
+        }
     }
 }
 
@@ -186,7 +198,7 @@ impl Call {
             }
             Ask::Split { .. } => lent_len(multiresolution::coarse_len((w, h))),
             Ask::Merge => lent_len(refinement::refined_len((w, h), 1)),
-            Ask::Clean { .. } => 0,
+            Ask::Clean { .. } | Ask::Check => 0,
         };
         let details_len = match ask {
             Ask::Merge => lent_len(multiresolution::merged_details_len((w, h))),
@@ -199,6 +211,7 @@ impl Call {
             ask,
             out_len,
             details: vec![0; details_len],
+            outline: None,
         }
     }
 
@@ -227,6 +240,9 @@ impl Call {
 
     /// The call's conditions of refusal in their order.
     pub fn faults(&self) -> Faults {
+        if let Some(outline) = &self.outline {
+            return self.outlined_faults(outline);
+        }
         let (net, size) = (&self.net, (self.w, self.h));
         match self.ask {
             Ask::Vertex { i, j } => oracle::vertex_faults(net, self.w, self.h, i, j),
@@ -262,10 +278,14 @@ impl Call {
             }
             Ask::Merge => multiresolution::merge_faults(net, &self.details, size, self.out_len),
             Ask::Clean { t } => multiresolution::clean_faults(net, size, t),
+            Ask::Check => panic!("no outline"),
         }
     }
 
     pub fn of_oracle(&self) -> Answer {
+        if let Some(outline) = &self.outline {
+            return self.outlined_of_oracle(outline);
+        }
         let (net, size) = (&self.net, (self.w, self.h));
         match self.ask {
             Ask::Vertex { .. } => vertex_answer(oracle::refusal(&self.faults())),
@@ -298,6 +318,7 @@ impl Call {
                 self.out_len,
             )),
             Ask::Clean { t } => list_answer(multiresolution::clean(net, size, t)),
+            Ask::Check => panic!("no outline"),
         }
     }
 
@@ -308,6 +329,9 @@ impl Call {
     }
 
     pub fn of_kernel(&self, net: &LentNet) -> Answer {
+        if let Some(outline) = &self.outline {
+            return self.outlined_of_kernel(net, outline, &outline.lent());
+        }
         let size = (self.w, self.h);
         match self.ask {
             Ask::Vertex { i, j } => vertex_answer(net.vertex_refusal(self.w, self.h, i, j)),
@@ -337,6 +361,7 @@ impl Call {
                 list_answer(net.merge(&details, size, self.out_len))
             }
             Ask::Clean { t } => list_answer(kernel::clean(net.numbers(), size, t)),
+            Ask::Check => panic!("no outline"),
         }
     }
 
@@ -380,6 +405,10 @@ pub(crate) fn refined_answer(answer: Result<RefinedPoint, u32>) -> Answer {
 
 pub(crate) fn split_answer(answer: Result<Split, u32>) -> Answer {
     answer.map_or_else(Answer::Refused, Answer::Split)
+}
+
+pub(crate) fn door_answer(answer: Result<RefinedDoor, u32>) -> Answer {
+    answer.map_or_else(Answer::Refused, Answer::Door)
 }
 
 pub(crate) fn bits_answer<const N: usize>(answer: Result<[u64; N], u32>) -> Answer {

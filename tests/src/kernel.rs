@@ -3,7 +3,10 @@
 //! Every lent slice lies between canary values. After each call the wrappers assert that the
 //! canaries and every input are unchanged, that a refusal left every output, and the details
 //! lent to clean, unchanged bit for bit, and that an accepted call left everything behind its
-//! result, and behind what is free of a scratch, unchanged.
+//! result, and behind what is free of a scratch or of a search, unchanged. `outlined` has the calls
+//! with an outline.
+
+mod outlined;
 
 use crate::multiresolution::{self, Split};
 use crate::netfile::FileNet;
@@ -12,7 +15,10 @@ use crate::pages::{Pages, Side};
 use crate::random::mix;
 use crate::record;
 use crate::refinement;
+pub(crate) use outlined::RefiningDoor;
+pub use outlined::{DoorRoom, LentOutline, RefinedDoor};
 use std::cell::RefCell;
+use std::ops::Range;
 use ups::raw;
 
 /// Canary values on each side of a lent slice.
@@ -41,6 +47,16 @@ impl Number for i32 {
 
     fn bits(self) -> u64 {
         u64::from(self as u32)
+    }
+}
+
+impl Number for u32 {
+    fn canary(position: usize) -> Self {
+        mix(position as u64 + 1) as u32
+    }
+
+    fn bits(self) -> u64 {
+        u64::from(self)
     }
 }
 
@@ -111,18 +127,24 @@ impl<T: Number> Output<T> {
     /// The first `count` numbers when accepted; checks everything that must not have changed.
     pub(crate) fn front(&self, refusal: u32, count: usize) -> Result<&[T], u32> {
         let written = if refusal == 0 { count } else { 0 };
-        assert!(written <= self.len, "accepted with a short output");
-        let result = GUARD..GUARD + written;
-        for (position, (x, before)) in self.memory.iter().zip(&self.before).enumerate() {
-            if !result.contains(&position) && x.bits() != before.bits() {
-                let at = position as i64 - GUARD as i64;
-                panic!("refusal {refusal}: output position {at} changed");
-            }
-        }
+        let result = self.unchanged_but(refusal, written);
         match refusal {
             0 => Ok(&self.memory[result]),
             number => Err(number),
         }
+    }
+
+    /// Checks that nothing but the first `free` numbers has changed. Hands their range back.
+    fn unchanged_but(&self, refusal: u32, free: usize) -> Range<usize> {
+        assert!(free <= self.len, "{refusal} with a short output");
+        let free = GUARD..GUARD + free;
+        for (position, (x, before)) in self.memory.iter().zip(&self.before).enumerate() {
+            if !free.contains(&position) && x.bits() != before.bits() {
+                let at = position as i64 - GUARD as i64;
+                panic!("refusal {refusal}: output position {at} changed");
+            }
+        }
+        free
     }
 
     pub(crate) fn result<const N: usize>(&self, refusal: u32) -> Result<[T; N], u32> {

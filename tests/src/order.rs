@@ -3,7 +3,7 @@
 use crate::call::Call;
 
 /// The order on nets. A call has some of these numbers.
-pub const ORDER: [u32; 9] = [1, 4, 10, 12, 6, 2, 5, 3, 11];
+pub const ORDER: [u32; 12] = [1, 4, 10, 12, 6, 2, 13, 15, 5, 14, 3, 11];
 
 /// Puts one fault into a call.
 pub type Fault = fn(&mut Call);

@@ -1,11 +1,12 @@
 //! Calls on random nets, with all that they need, and changes of calls at random.
 
-use crate::call::{Ask, Call};
+use crate::call::{Ask, Call, Outlined};
 use crate::multiresolution::DETAIL_LIMIT;
 use crate::nets::{self, Numbers, NUMBERS};
 use crate::oracle::LIMIT;
 use crate::random::Random;
 use crate::refinement;
+use crate::shapes;
 
 /// Sides, vertices, places, steps and thresholds, of which some are refused everywhere.
 const WILD: [usize; 9] = [0, 1, 2, 3, 7, 514, 1025, 1026, usize::MAX];
@@ -93,10 +94,57 @@ pub fn clean(random: &mut Random) -> Call {
     Call::new(&details, size, Ask::Clean { t })
 }
 
+/// The outline of a call on a net, connected more often than not.
+fn outline(random: &mut Random, size: Size) -> Vec<u8> {
+    match random.below(4) {
+        0 => shapes::full(size),
+        1 => shapes::random(random, size, 80),
+        _ => {
+            let most = 1 + random.below(40);
+            shapes::grown(random, size, most)
+        }
+    }
+}
+
+fn with_outline(random: &mut Random, call: Call) -> Call {
+    let bytes = outline(random, (call.w, call.h));
+    call.with_outline(&bytes)
+}
+
+pub fn check(random: &mut Random) -> Call {
+    let size = nets::random_size(random);
+    Call::check_of(&outline(random, size), size)
+}
+
+pub fn bezier_outlined(random: &mut Random) -> Call {
+    let call = bezier(random);
+    with_outline(random, call)
+}
+
+pub fn surface_outlined(random: &mut Random) -> Call {
+    let call = surface(random);
+    with_outline(random, call)
+}
+
+pub fn view_outlined(random: &mut Random) -> Call {
+    let call = view(random);
+    with_outline(random, call)
+}
+
+pub fn refine_outlined(random: &mut Random) -> Call {
+    let call = refine(random);
+    with_outline(random, call)
+}
+
+pub fn refined_point_outlined(random: &mut Random) -> Call {
+    let call = refined_point(random);
+    with_outline(random, call)
+}
+
 /// One change of a call, whatever it is by now.
 type Change = fn(&mut Random, &mut Call);
 
-const CHANGES: [Change; 8] = [
+const CHANGES: [Change; 9] = [
     set_side,
     set_argument,
     cut,
@@ -105,6 +153,7 @@ const CHANGES: [Change; 8] = [
     less_room,
     more_room,
     less_room_beside,
+    set_outline,
 ];
 
 /// Makes one of the changes.
@@ -130,7 +179,21 @@ fn set_argument(random: &mut Random, call: &mut Call) {
         Ask::Refine { k, .. } => *k = wild,
         Ask::RefinedPoint { k, p, q, .. } => *[k, p, q][random.below(3)] = wild,
         Ask::Clean { t } => *t = wild as u32,
-        Ask::Write { .. } | Ask::Split { .. } | Ask::Merge => {}
+        Ask::Write { .. } | Ask::Split { .. } | Ask::Merge | Ask::Check => {}
+    }
+}
+
+/// A byte set to 0, to 1 or beyond, or bytes less or more, where there is an outline.
+fn set_outline(random: &mut Random, call: &mut Call) {
+    let Some(Outlined { bytes, .. }) = &mut call.outline else {
+        return;
+    };
+    let at = random.below(bytes.len().max(1));
+    let byte = random.pick(&[0, 0, 1, 2, 255]);
+    match random.below(4) {
+        0 => bytes.truncate(at),
+        1 => bytes.extend([byte, 7, 1]),
+        _ => bytes.iter_mut().skip(at).take(1).for_each(|b| *b = byte),
     }
 }
 
@@ -172,8 +235,16 @@ fn more_room(random: &mut Random, call: &mut Call) {
     call.out_len += random.below(40);
 }
 
-/// Of the scratch, or of an output beside the first.
+/// Of the scratch, of the search or of an output beside the first.
 fn less_room_beside(random: &mut Random, call: &mut Call) {
+    if let (Some(outline), true) = (&mut call.outline, random.below(2) == 0) {
+        let len = match random.below(2) {
+            0 => &mut outline.fine_len,
+            _ => &mut outline.search_len,
+        };
+        *len = len.saturating_sub(1);
+        return;
+    }
     let len = match &mut call.ask {
         Ask::Refine { scratch_len, .. } => scratch_len,
         Ask::RefinedPoint {

@@ -1,5 +1,7 @@
 //! The questions of `call` put to the safe interface of the crate `ups`: to its functions on lent
-//! slices, in the same guarded memory, and to its nets.
+//! slices, in the same guarded memory, and to its nets. `outlined` has those with an outline.
+
+mod outlined;
 
 use crate::call::{
     bits_answer, bytes_answer, list_answer, numbers_answer, refined_answer, split_answer,
@@ -25,6 +27,9 @@ impl Call {
     /// The answer of the functions on lent slices. The crate itself lends the count of bytes of a
     /// file, and its triangles are up or down.
     pub fn of_lent(&self) -> Answer {
+        if let Some(outline) = &self.outline {
+            return self.outlined_of_lent(outline);
+        }
         match self.ask {
             Ask::Vertex { i, j } => self.lent_vertex(i, j),
             Ask::Bezier { i, j, down } => numbers_answer(self.lent_bezier(i, j, down)),
@@ -45,6 +50,7 @@ impl Call {
             Ask::Split { details_len } => split_answer(self.lent_split(details_len)),
             Ask::Merge => list_answer(self.lent_merge()),
             Ask::Clean { t } => list_answer(self.lent_clean(t)),
+            Ask::Check => panic!("no outline"),
         }
     }
 
@@ -141,7 +147,10 @@ impl Call {
 
     /// The answer of a net that is made of the numbers; of a split, where details are merged.
     pub fn of_net(&self) -> Answer {
-        let answer = Net::new(self.w, self.h, &self.net).and_then(|net| self.asked_of(net));
+        let answer = Net::new(self.w, self.h, &self.net).and_then(|net| match &self.outline {
+            Some(outline) => self.asked_of_door(net, outline),
+            None => self.asked_of(net),
+        });
         answer.unwrap_or_else(|refusal| Answer::Refused(refusal.number()))
     }
 
@@ -162,7 +171,7 @@ impl Call {
                 let split = ups::Split::new(net, &self.details)?;
                 Answer::Numbers(self.refined_by(1, split.merge()?))
             }
-            Ask::Clean { .. } => panic!("no call of a net: {self:?}"),
+            Ask::Clean { .. } | Ask::Check => panic!("no call of a net: {self:?}"),
         })
     }
 
@@ -189,9 +198,10 @@ impl Call {
     pub fn of_oracle_net(&self) -> Answer {
         let (size, room) = ((self.w, self.h), usize::MAX);
         let made = refinement::refine_faults(&self.net, size, 0, room, room);
-        match oracle::refusal(&made) {
-            0 => self.with_room().of_oracle(),
-            number => Answer::Refused(number),
+        match (oracle::refusal(&made), &self.outline) {
+            (0, None) => self.with_room().of_oracle(),
+            (0, Some(outline)) => self.of_oracle_door(outline),
+            (number, _) => Answer::Refused(number),
         }
     }
 

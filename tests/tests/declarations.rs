@@ -99,6 +99,18 @@ fn a_changed_type_is_found() {
 }
 
 #[test]
+fn a_changed_element_is_found() {
+    let other_element: Change = |all| {
+        let out = at(all, "out");
+        let text = all[out]
+            .replace("[i32]", "[u32]")
+            .replace("mut i32", "mut u32");
+        all[out] = text.replace("int32_t", "uint32_t");
+    };
+    expect_at_each_place(other_element, "parameter 7 is `out: *mut ");
+}
+
+#[test]
 fn exchanged_parameters_are_found() {
     let exchanged: Change = |all| {
         let (p, q) = (at(all, "p"), at(all, "q"));
@@ -254,11 +266,11 @@ fn a_changed_refusal_is_found() {
         let texts = changed(file, "not a refusal of", "no refusal of");
         expect(&texts, &[REFUSALS], "other numbers", "not a refusal of");
     }
-    let texts = changed(HEADER, "UPS_EVEN = 10", "UPS_EVEN = 13");
-    expect(&texts, &[REFUSALS], "EVEN", "due is 13 ");
-    let texts = changed(REFUSALS, "Refusal(10)", "Refusal(13)");
-    expect(&texts, &[REFUSALS], "EVEN", "is 13 ");
-    let texts = changed(HEADER, "UPS_ACCEPTED = 0", "UPS_ACCEPTED = 13");
+    let texts = changed(HEADER, "UPS_EVEN = 10", "UPS_EVEN = 99");
+    expect(&texts, &[REFUSALS], "EVEN", "due is 99 ");
+    let texts = changed(REFUSALS, "Refusal(10)", "Refusal(99)");
+    expect(&texts, &[REFUSALS], "EVEN", "is 99 ");
+    let texts = changed(HEADER, "UPS_ACCEPTED = 0", "UPS_ACCEPTED = 99");
     expect(&texts, &[HEADER], "UPS_ACCEPTED", "is not 0");
 }
 

@@ -1,8 +1,8 @@
 //! Slices of length 0 with a null pointer, and with one that points nowhere, for every slice of
-//! every export: both are answered as the lengths demand.
+//! every export without an outline: both are answered as the lengths demand.
 
-use std::ptr::{self, NonNull};
 use ups::raw;
+use ups_tests::lending::{ways, Lend};
 use ups_tests::multiresolution::{self, DETAIL_LIMIT};
 use ups_tests::netfile;
 use ups_tests::oracle::{self, Faults, BEZIER_NUMBERS, POINT_NUMBERS};
@@ -17,49 +17,6 @@ const COARSE: Size = (2, 2);
 const NUMBERS: usize = record::numbers(SIZE);
 /// More than any output takes.
 const ROOM: usize = 2000;
-
-/// How a slice is lent.
-#[derive(Clone, Copy, Debug)]
-enum Lend {
-    Whole,
-    Null,
-    Nowhere,
-}
-
-const LEND: [Lend; 3] = [Lend::Whole, Lend::Null, Lend::Nowhere];
-
-impl Lend {
-    /// The numbers that are lent.
-    fn of<T>(self, numbers: &[T]) -> &[T] {
-        match self {
-            Lend::Whole => numbers,
-            Lend::Null | Lend::Nowhere => &[],
-        }
-    }
-
-    fn input<T>(self, numbers: &[T]) -> (*const T, usize) {
-        match self {
-            Lend::Whole => (numbers.as_ptr(), numbers.len()),
-            Lend::Null => (ptr::null(), 0),
-            Lend::Nowhere => (NonNull::dangling().as_ptr(), 0),
-        }
-    }
-
-    fn output<T>(self, numbers: &mut [T]) -> (*mut T, usize) {
-        match self {
-            Lend::Whole => (numbers.as_mut_ptr(), numbers.len()),
-            Lend::Null => (ptr::null_mut(), 0),
-            Lend::Nowhere => (NonNull::dangling().as_ptr(), 0),
-        }
-    }
-}
-
-/// Every way to lend `N` slices.
-fn ways<const N: usize>() -> impl Iterator<Item = [Lend; N]> {
-    (0..LEND.len().pow(N as u32)).map(|way| {
-        std::array::from_fn(|slice| LEND[way / LEND.len().pow(slice as u32) % LEND.len()])
-    })
-}
 
 /// Lends the slices in every way. `call` gets a size, numbers to lend and the way, and hands back
 /// the library's answer and the faults.

@@ -2,7 +2,7 @@
 
 use std::collections::HashSet;
 use std::error::Error;
-use ups::{lent, Net, Refusal, Split};
+use ups::{lent, Door, Net, Refusal, Split};
 use ups_tests::multiresolution::DETAIL_LIMIT;
 use ups_tests::netfile;
 use ups_tests::oracle::LIMIT;
@@ -11,7 +11,7 @@ use ups_tests::record;
 /// Numbers of a net of 2 by 2.
 const NUMBERS: usize = record::numbers((2, 2));
 
-const REFUSALS: [(u32, Refusal, &str); 12] = [
+const REFUSALS: [(u32, Refusal, &str); 15] = [
     (
         1,
         Refusal::SIZE,
@@ -20,7 +20,7 @@ const REFUSALS: [(u32, Refusal, &str); 12] = [
     (
         2,
         Refusal::SHORT,
-        "the net or the details have fewer numbers than the size needs",
+        "the net, the details or the outline are shorter than the size needs",
     ),
     (3, Refusal::RANGE, "a number is beyond its range"),
     (
@@ -56,6 +56,21 @@ const REFUSALS: [(u32, Refusal, &str); 12] = [
         "a number of the result is beyond the net range",
     ),
     (12, Refusal::THRESHOLD, "the threshold is above 33,554,432"),
+    (
+        13,
+        Refusal::OUTLINE_BYTE,
+        "a byte of the outline is neither 0 nor 1",
+    ),
+    (
+        14,
+        Refusal::NOT_CONNECTED,
+        "the present triangles are none, or not connected by edges",
+    ),
+    (
+        15,
+        Refusal::OFF_DOOR,
+        "the place or the triangle is off the door",
+    ),
 ];
 
 #[test]
@@ -78,7 +93,7 @@ fn numbers_and_sentences() {
 #[test]
 fn none_and_others() {
     assert_eq!(Refusal::check(0), Ok(()));
-    for number in [13, 14, 100, u32::MAX] {
+    for number in [16, 17, 100, u32::MAX] {
         let refusal = Refusal::check(number).expect_err("not 0");
         assert_eq!(refusal.number(), number);
         assert_eq!(refusal.to_string(), "not a refusal of this library");
@@ -90,7 +105,7 @@ fn net(w: usize, h: usize, number: i32) -> Result<Net, Refusal> {
     Net::new(w, h, &vec![number; record::numbers((w, h))])
 }
 
-/// The example that the specification gives for each refusal.
+/// The example that the specification or `Refusal` gives for each refusal.
 #[test]
 fn examples() -> Result<(), Refusal> {
     let file = netfile::file(&[0; NUMBERS], (2, 2));
@@ -111,6 +126,9 @@ fn examples() -> Result<(), Refusal> {
         net(4, 3, 0)?.split().err(),
         merged.err(),
         threshold.err(),
+        Door::new(net(2, 2, 0)?, &[1, 2]).err(),
+        Door::new(net(3, 2, 0)?, &[1, 0, 1, 0]).err(),
+        Door::new(net(2, 2, 0)?, &[1, 0])?.point(1024, 1024).err(),
     ];
     assert_eq!(answers, REFUSALS.map(|(_, refusal, _)| Some(refusal)));
     Ok(())

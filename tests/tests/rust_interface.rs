@@ -32,7 +32,7 @@ type Size = (usize, usize);
 /// may have numbers out of range where a call does not look; of a split, 4 has a test of its own.
 type Kind = (fn(&mut Random) -> Call, &'static [u32], &'static [u32]);
 
-const KINDS: [Kind; 9] = [
+const KINDS: [Kind; 14] = [
     (calls::vertex, &[0, 1, 2, 6], &[0, 1, 2, 3, 6]),
     (calls::bezier, &[0, 1, 2, 3, 5, 6], &[0, 1, 2, 3, 6]),
     (calls::surface, &[0, 1, 2, 3, 5, 6], &[0, 1, 2, 3, 6]),
@@ -50,6 +50,31 @@ const KINDS: [Kind; 9] = [
         &[0, 1, 2, 3, 10, 11],
     ),
     (calls::merge, &[0, 1, 2, 3, 4, 5, 11], &[0, 1, 2, 3, 11]),
+    (
+        calls::bezier_outlined,
+        &[0, 1, 2, 3, 5, 6, 13, 15],
+        &[0, 1, 2, 3, 6, 13, 14, 15],
+    ),
+    (
+        calls::surface_outlined,
+        &[0, 1, 2, 3, 5, 6, 13, 15],
+        &[0, 1, 2, 3, 6, 13, 14, 15],
+    ),
+    (
+        calls::view_outlined,
+        &[0, 1, 2, 3, 5, 6, 13, 15],
+        &[0, 1, 2, 3, 6, 13, 14, 15],
+    ),
+    (
+        calls::refine_outlined,
+        &[0, 1, 2, 3, 4, 5, 13, 14],
+        &[0, 1, 2, 3, 4, 13, 14],
+    ),
+    (
+        calls::refined_point_outlined,
+        &[0, 1, 2, 3, 4, 5, 6, 13, 14, 15],
+        &[0, 1, 2, 3, 4, 6, 13, 14, 15],
+    ),
 ];
 
 /// Compares two answers to calls of one kind with up to three changes, and expects that these
@@ -74,10 +99,11 @@ fn functions_on_lent_slices() {
     for (make, refusals, _) in KINDS {
         check_kind(make, refusals, |call| [call.of_lent(), call.of_oracle()]);
     }
-    let refusals = [0, 1, 2, 3, 10, 12];
-    check_kind(calls::clean, &refusals, |call| {
-        [call.of_lent(), call.of_oracle()]
-    });
+    let clean: Kind = (calls::clean, &[0, 1, 2, 3, 10, 12], &[]);
+    let check: Kind = (calls::check, &[0, 1, 2, 5, 13, 14], &[]);
+    for (make, refusals, _) in [clean, check] {
+        check_kind(make, refusals, |call| [call.of_lent(), call.of_oracle()]);
+    }
 }
 
 #[test]

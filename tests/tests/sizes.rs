@@ -3,12 +3,13 @@
 
 use ups::{coarse_numbers, coarse_side, detail_numbers, file_bytes, file_numbers, net_numbers};
 use ups::{lent, Refusal};
-use ups::{refined_numbers, scratch_numbers, side_after};
+use ups::{refined_numbers, refined_triangles, scratch_numbers, side_after, triangles};
 use ups::{BEZIER, DETAIL_RECORD, FILE_WORDS, POINT, RECORD};
 use ups::{EDGE, GREATEST_DEPTH, GREATEST_SIDE, LEAST_SIDE};
 use ups_tests::multiresolution;
 use ups_tests::netfile::{self, HEIGHT, POINT_WORDS, WIDTH};
 use ups_tests::oracle::{Faults, BEZIER_NUMBERS, POINT_NUMBERS};
+use ups_tests::outlines::{self, Door};
 use ups_tests::record;
 use ups_tests::refinement;
 
@@ -77,6 +78,20 @@ fn of_refined_nets() {
             assert_eq!(refined_numbers(w, h, k), refined, "{w} {h} {k}");
             let scratch = expected(refinement::scratch_len((w, h), k), &faults, &[1, 4]);
             assert_eq!(scratch_numbers(w, h, k), scratch, "{w} {h} {k}");
+        }
+    }
+}
+
+#[test]
+fn of_outlines() {
+    for (w, h) in sizes() {
+        let faults = outlines::check_faults(&Door::new(&[], (w, h)), MAX);
+        let count = expected(outlines::triangles((w, h)), &faults, &[1]);
+        assert_eq!(triangles(w, h), count, "{w} {h}");
+        for k in STEPS {
+            let faults = refinement::refine_faults(&[], (w, h), k, MAX, MAX);
+            let fine = expected(outlines::fine_triangles((w, h), k), &faults, &[1, 4]);
+            assert_eq!(refined_triangles(w, h, k), fine, "{w} {h} {k}");
         }
     }
 }
@@ -155,12 +170,17 @@ fn nothing_is_for_refused_sizes_alone() {
     let (side, even, depth) = (Refusal::SIZE, Refusal::EVEN, Refusal::DEPTH);
     let (side, odd, steps) = ([side], [side, even], [side, depth]);
     for (w, h) in sizes() {
+        let checked = lent::check_outline(&[], w, h, &mut []);
+        expect_empty(triangles(w, h), &side, checked);
         let written = lent::write(&[], w, h, &mut []).map(|_| ());
         expect_empty(net_numbers(w, h), &side, written);
         expect_empty(file_bytes(w, h), &side, written);
         for k in STEPS {
             let refined = lent::refine(&[], w, h, k, &mut [], &mut []);
             expect_empty(refined_numbers(w, h, k), &steps, refined);
+            let outlined =
+                lent::refine_outlined(&[], w, h, k, &[], &mut [], &mut [], &mut [], &mut []);
+            expect_empty(refined_triangles(w, h, k), &steps, outlined);
         }
         let split = lent::split(&[], w, h, &mut [], &mut []);
         expect_empty(coarse_numbers(w, h), &odd, split);
@@ -243,6 +263,59 @@ fn room_of_refined_nets() {
             check_room(lens, [SHORT, ROOM, ROOM, ROOM], |[net, out, by, point]| {
                 let (out, by, point) = (&mut zeros(out), &mut zeros(by), &mut zeros(point));
                 lent::refined_point(&zeros(net), w, h, k, 0, 0, out, by, point)
+            });
+        }
+    }
+}
+
+fn ones(len: usize) -> Vec<u8> {
+    vec![1; len]
+}
+
+#[test]
+fn room_of_outlines() {
+    for ((w, h), _) in LENT {
+        let (net, count) = (net_numbers(w, h), triangles(w, h));
+        check_room([count, count], [SHORT, ROOM], |[outline, search]| {
+            lent::check_outline(&ones(outline), w, h, &mut vec![0; search])
+        });
+        let refusals = [SHORT, SHORT, ROOM];
+        check_room([net, count, BEZIER], refusals, |[net, on, out]| {
+            let (net, on, out) = (zeros(net), ones(on), &mut zeros(out));
+            lent::bezier_net_outlined(&net, w, h, &on, 0, 0, true, out)
+        });
+        check_room([net, count, POINT], refusals, |[net, on, out]| {
+            let (net, on, out) = (zeros(net), ones(on), &mut zeros(out));
+            lent::surface_point_outlined(&net, w, h, &on, 1024, 1024, out)
+        });
+        check_room([net, count, POINT], refusals, |[net, on, out]| {
+            let (net, on, out) = (zeros(net), ones(on), &mut vec![0.0; out]);
+            lent::view_point_outlined(&net, w, h, &on, 1024, 1024, out)
+        });
+    }
+}
+
+#[test]
+fn room_of_refined_outlines() {
+    for ((w, h), most) in LENT {
+        for k in 0..=most {
+            let (net, count) = (net_numbers(w, h), triangles(w, h));
+            let (out, by) = (refined_numbers(w, h, k), scratch_numbers(w, h, k));
+            let fine = refined_triangles(w, h, k);
+            let lens = [net, count, out, by, fine, count];
+            let refusals = [SHORT, SHORT, ROOM, ROOM, ROOM, ROOM];
+            check_room(lens, refusals, |[net, on, out, by, fine, search]| {
+                let (net, on, search) = (zeros(net), ones(on), &mut vec![0; search]);
+                let (out, by, fine) = (&mut zeros(out), &mut zeros(by), &mut ones(fine));
+                lent::refine_outlined(&net, w, h, k, &on, out, by, fine, search)
+            });
+            let lens = [net, count, out, by, fine, count, POINT];
+            let refusals = [SHORT, SHORT, ROOM, ROOM, ROOM, ROOM, ROOM];
+            check_room(lens, refusals, |[net, on, out, by, fine, search, at]| {
+                let (net, on, search) = (zeros(net), ones(on), &mut vec![0; search]);
+                let (out, by, fine) = (&mut zeros(out), &mut zeros(by), &mut ones(fine));
+                let at = &mut zeros(at);
+                lent::refined_point_outlined(&net, w, h, k, &on, 0, 0, out, by, fine, search, at)
             });
         }
     }

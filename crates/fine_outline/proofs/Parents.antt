@@ -7,12 +7,13 @@ use native.Mathlib.Nat.{mul-comm, mul-assoc, pow-succ', one-le-pow, mod-lt, div-
 use native.Mathlib.Omega.{arith}
 use native.Mathlib.Decide.{decLt}
 use lib.Arith.{digits-div, digits-mod}
-use lib.Dec.{leb, lit<, lit≤}
+use lib.Dec.{leb, lit<}
 use borrow.Author.Tests.{leb-true, leb-false, le-leb, lt-leb}
 use Rattle.net.specs.Net.{Index, one, two, three, Triangle, triangleAt, OfNet, cornerOf}
 use Rattle.places.specs.Places.{LiesBy}
 use Rattle.subdivision.specs.Refinement.{sideAfter}
 use Rattle.outline.specs.Outline.{inCell}
+use Rattle.outline.proofs.Numbers.{in-cell}
 use Rattle.fine_outline.specs.FineOutline.{LiesWithin, parentBy, parent}
 
 -- ---- quotients and remainders
@@ -169,10 +170,6 @@ half n h = go (leb 2 n) refl
     go : (b : Bool) → leb 2 n ≡ b → inCell b ≡ n / 2
     go true e = omega (arith, leb-true 2 n e)
     go false e = omega (arith, leb-false 2 n e)
-
-pub in-cell : (d : Bool) → inCell d ≤ 1
-in-cell true = lit≤ tt
-in-cell false = lit≤ tt
 
 -- a step more has twice the cells
 split-double : (k n : ℕ) → Split (2 ^ suc k) n (n / 2 / 2 ^ k) (2 * (n / 2 % 2 ^ k) + n % 2)

@@ -9,15 +9,15 @@ use lib.Arith.{digits-lt, digits-div, digits-mod}
 use lib.Dec.{leb, eqb, lit<}
 use lib.ListN.{length, getD}
 use lib.Seq.{sets}
-use borrow.Author.Tests.{le-leb, lt-leb, eqb-true, eqb-false}
 use Rattle.exact.specs.Filling.{over, runs}
 use Rattle.exact.proofs.FillingLaws.{length-runs, runs-add, runs-same, runs-more, over-more}
 use Rattle.net.specs.Net.{Triangle, triangleAt}
 use Rattle.subdivision.specs.Refinement.{sideAfter}
 use Rattle.outline.specs.Outline.{triangles, inCell, byteOf, triangleOf}
+use Rattle.outline.proofs.Numbers.{byte-in-cell}
 use Rattle.steps.specs.Steps.{Depth}
 use Rattle.fine_outline.specs.FineOutline.{parentBy, parent, fineOutline}
-use Rattle.fine_outline.specs.Rows.{filled, cellRun, partRun, rowRun, RowReady}
+use Rattle.fine_outline.specs.Rows.{cellRun, partRun, rowRun, RowReady}
 use Rattle.fine_outline.proofs.Parents.{split-of, some-cells, parent-parts, side-cells}
 
 -- a runs of b runs each
@@ -33,21 +33,6 @@ cell-run-length : (up down s g : ℕ) → length (cellRun up down s g) ≡ 2 * s
 cell-run-length up down s g =
     length-runs (2 * s) 1 (λ n. cond (leb s (n / 2 + g + n % 2)) down up ∷ []) (λ n h. refl) ∙ mul-one (2 * s)
 
--- the first bytes of a part of a row are the up triangle's, and the others the down triangle's
-pub cell-filled : (up down s g : ℕ) → g < s →
-    filled (2 * (s - g) - 1) up ++ filled (2 * s - (2 * (s - g) - 1)) down ≡ cellRun up down s g
-cell-filled up down s g a =
-    let m : ℕ = 2 * (s - g) - 1 in
-    let n : ℕ = 2 * s - m in
-    let f : ℕ → List ℕ = λ i. cond (leb s (i / 2 + g + i % 2)) down up ∷ [] in
-    (λ t. runs-same m (λ i. up ∷ []) f
-    (λ i b. ap (λ (l : Bool). cond l down up ∷ []) (sym (lt-leb s (i / 2 + g + i % 2) (omega arith)))) t
-    ++ runs-same n (λ i. down ∷ []) (λ i. f (m + i))
-    (λ i b. ap (λ (l : Bool). cond l down up ∷ [])
-    (sym (le-leb s ((m + i) / 2 + g + (m + i) % 2) (omega arith)))) t)
-    ∙ sym (runs-add m n f)
-    ∙ ap (λ (k : ℕ). runs k f) (omega arith)
-
 -- ---- the fine outline by rows
 
 -- the byte of one of two triangles of a cell
@@ -55,13 +40,6 @@ byte-by : (outline : List ℕ) (n : ℕ) (b : Bool) →
     getD outline (2 * n + inCell b) 0 ≡ cond b (getD outline (2 * n + 1) 0) (getD outline (2 * n) 0)
 byte-by outline n true = refl
 byte-by outline n false = ap (λ (m : ℕ). getD outline m 0) (add-zero (2 * n))
-
-odd-byte : (n : ℕ) → inCell (eqb (n % 2) 1) ≡ n % 2
-odd-byte n = by (eqb (n % 2) 1) refl
-  where
-    by : (b : Bool) → eqb (n % 2) 1 ≡ b → inCell b ≡ n % 2
-    by true e = sym (eqb-true (n % 2) 1 e)
-    by false e = let k = eqb-false (n % 2) 1 e in omega arith
 
 -- byte n of the part of fine row r in cell i, with s fine cells to a side of a cell and a fine net of width v
 module _ (outline : List ℕ) (w v s r i n : ℕ) (cells : v - 1 ≡ (w - 1) * s) (a : i < w - 1) (b : n < 2 * s) where
@@ -89,7 +67,7 @@ module _ (outline : List ℕ) (w v s r i n : ℕ) (cells : v - 1 ≡ (w - 1) * s
       ∙ parent-parts (eqb (n % 2) 1)
       (record { whole = omega (arith, mul-comm i s); below = omega (arith, b) })
       (split-of s r (omega (arith, b)))
-      ∙ ap (λ (m : ℕ). triangleAt i (r / s) (leb s (n / 2 + r % s + m))) (odd-byte n)
+      ∙ ap (λ (m : ℕ). triangleAt i (r / s) (leb s (n / 2 + r % s + m))) (byte-in-cell n)
 
   byte-at : getD outline (byteOf w (parentBy s (triangleOf v at))) 0
       ≡ cond (leb s (n / 2 + r % s + n % 2)) (getD outline (2 * (r / s * (w - 1) + i) + 1) 0)

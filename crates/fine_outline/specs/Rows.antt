@@ -9,10 +9,6 @@ use lib.ListN.{length, getD}
 use Rattle.exact.specs.Filling.{runs}
 use Rattle.outline.specs.Outline.{triangles}
 
--- one byte, n times
-abbrev pub filled : ℕ → ℕ → List ℕ
-filled n b = runs n (λ i. b ∷ [])
-
 -- the part of a fine row that lies in one starting cell, s fine cells to its side, g rows above its lower edge: the
 -- bytes of the fine triangles below the cell's diagonal are the up triangle's
 abbrev pub cellRun : ℕ → ℕ → ℕ → ℕ → List ℕ

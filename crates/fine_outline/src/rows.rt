@@ -1,8 +1,9 @@
-// The outline of a refined net, written row by row. Of the fine triangles of one row that lie in one starting cell, the
-// first lie in its up triangle and the others in its down triangle: so each part of a row is two fills.
+// The outline of a refined net, written row by row, and each row starting cell by starting cell.
 use steps::side_after;
 ghost use mathlib.Core.Path.{_≡_};
+ghost use mathlib.Core.Bool.{cond};
 ghost use Prim.Native.Nat.{_+_, _-_, _*_, _≤_, _<_};
+ghost use lib.Dec.{leb};
 ghost use lib.ListN.{length};
 ghost use lib.Seq.{sets};
 ghost use Rattle.exact.specs.Filling.{over};
@@ -10,28 +11,27 @@ ghost use Rattle.subdivision.specs.Refinement.{sideAfter};
 ghost use Rattle.outline.specs.Outline.{triangles};
 ghost use Rattle.steps.specs.Steps.{Depth};
 ghost use Rattle.fine_outline.specs.FineOutline.{fineOutline};
-ghost use Rattle.fine_outline.specs.Rows.{filled, cellRun, rowRun, RowReady};
+ghost use Rattle.fine_outline.specs.Rows.{cellRun, rowRun, RowReady};
 
-// One byte n times, from a place on.
-fn fill(b: u8, at: usize, n: usize, fine: &mut [u8])
-    requires { ⌜ at + n ≤ length (now fine) ⌝ }
-    ensures { λ r. ⌜ now (fine .exit) ≡ sets (now (fine .entry)) at (filled n b) ⌝ }
+// The byte of a fine triangle that has x cells below and left of it in its starting cell of s: the down triangle's from
+// the diagonal on, else the up triangle's.
+fn parent_byte(up: u8, down: u8, s: usize, x: usize) -> u8
+    ensures { λ r. ⌜ r ≡ cond (leb s x) down up ⌝ }
 {
-    let mut i = 0;
-    while i < n {
-        fine[at + i] = b;
-        i += 1;
-    }
+    if s <= x { down } else { up }
 }
 
-// The part of a fine row that lies in one starting cell.
+// The part of a fine row that lies in one starting cell. One choice a byte: two fills would be calls of the C library.
 fn write_cell(up: u8, down: u8, s: usize, g: usize, at: usize, fine: &mut [u8])
     requires { ⌜ (g < s) × (s ≤ 64) × (at + 2 * s ≤ length (now fine)) ⌝ }
     ensures { λ r. ⌜ now (fine .exit) ≡ sets (now (fine .entry)) at (cellRun up down s g) ⌝ }
 {
-    let n = 2 * (s - g) - 1;
-    fill(up, at, n, fine);
-    fill(down, at + n, 2 * s - n, fine);
+    let mut n = 0;
+    while n < 2 * s {
+        let b = parent_byte(up, down, s, n / 2 + g + n % 2);
+        fine[at + n] = b;
+        n += 1;
+    }
 }
 
 // Fine row r.

@@ -14,7 +14,7 @@ use Rattle.net.proofs.Grids.{vertex-in-grid}
 use Rattle.outline.specs.Outline.{triangles, inCell, byteOf, triangleOf}
 use Rattle.outline.proofs.ByteLaws.{few-cells}
 
-in-cell : (d : Bool) → inCell d ≤ 1
+pub in-cell : (d : Bool) → inCell d ≤ 1
 in-cell true = lit≤ tt
 in-cell false = lit≤ tt
 
@@ -28,7 +28,7 @@ down-of d n =
     by true = refl
     by false = refl
 
-byte-in-cell : (n : ℕ) → inCell (eqb (n % 2) 1) ≡ n % 2
+pub byte-in-cell : (n : ℕ) → inCell (eqb (n % 2) 1) ≡ n % 2
 byte-in-cell n = by (eqb (n % 2) 1) refl
   where
     by : (b : Bool) → eqb (n % 2) 1 ≡ b → inCell b ≡ n % 2
