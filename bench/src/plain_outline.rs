@@ -8,7 +8,9 @@ use ups::triangles;
 /// The triangles that share an edge with the one of this byte, those of the net.
 fn neighbours(byte: usize, (w, h): Size) -> impl Iterator<Item = usize> {
     let (columns, rows) = (w - 1, h - 1);
-    let (i, j) = (byte / 2 % columns, byte / 2 / columns);
+    // in 32 bits, where a division takes less
+    let (cell, across) = (byte as u32 / 2, columns as u32);
+    let (i, j) = ((cell % across) as usize, (cell / across) as usize);
     let row = 2 * columns;
     let near = match byte % 2 {
         0 => [
@@ -35,13 +37,13 @@ pub fn check(outline: &[u8], (w, h): Size) -> Result<(), Refusal> {
     }
     let first = outline.iter().position(|&byte| byte == 1).ok_or(14u32)?;
     let mut reached = vec![false; outline.len()];
-    let mut stack = vec![first];
+    let mut stack = vec![first as u32];
     reached[first] = true;
     while let Some(byte) = stack.pop() {
-        for next in neighbours(byte, (w, h)) {
+        for next in neighbours(byte as usize, (w, h)) {
             if outline[next] == 1 && !reached[next] {
                 reached[next] = true;
-                stack.push(next);
+                stack.push(next as u32);
             }
         }
     }
