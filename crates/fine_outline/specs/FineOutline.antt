@@ -30,8 +30,8 @@ fineOutline outline w h k =
     runs (triangles (sideAfter k w) (sideAfter k h))
     (λ n. getD outline (byteOf w (parent k (triangleOf (sideAfter k w) n))) 0 ∷ [])
 
--- worked cases: after two steps, triangles of cells (5, 2), (6, 1) and (4, 2); of 3 by 2 with bytes that all differ, no
--- step and one
+-- worked cases: after two steps, triangles of cells (5, 2), (6, 1), (2, 7) and (4, 2); of 3 by 2 with bytes that all
+-- differ, no step and one; of 2 by 3, one step, where a byte that is not there counts as 0
 parents :
     (parent 2 (triangleAt 5 2 false) ≡ triangleAt 1 0 false)
     × (parent 2 (triangleAt 5 2 true) ≡ triangleAt 1 0 true)
@@ -44,5 +44,7 @@ outlines :
     (fineOutline (4 ∷ 5 ∷ 6 ∷ 7 ∷ 8 ∷ []) 3 2 0 ≡ 4 ∷ 5 ∷ 6 ∷ 7 ∷ [])
     × (fineOutline (4 ∷ 5 ∷ 6 ∷ 7 ∷ 8 ∷ []) 3 2 1
     ≡ 4 ∷ 4 ∷ 4 ∷ 5 ∷ 6 ∷ 6 ∷ 6 ∷ 7 ∷ 4 ∷ 5 ∷ 5 ∷ 5 ∷ 6 ∷ 7 ∷ 7 ∷ 7 ∷ [])
+    × (fineOutline (4 ∷ 5 ∷ 6 ∷ []) 2 3 1
+    ≡ 4 ∷ 4 ∷ 4 ∷ 5 ∷ 4 ∷ 5 ∷ 5 ∷ 5 ∷ 6 ∷ 6 ∷ 6 ∷ 0 ∷ 6 ∷ 0 ∷ 0 ∷ 0 ∷ [])
 unfolding fineOutline runs
-outlines = (refl, refl)
+outlines = (refl, refl, refl)

@@ -22,8 +22,10 @@ FinePresent =
 abbrev pub FineDoor : Type 0
 FineDoor =
     (outline : List ℕ) (w h k p q : ℕ) → 2 ≤ w → 2 ≤ h →
-    (OnDoor 1024 (fineOutline outline w h k) (sideAfter k w) (sideAfter k h) p q → OnDoor (1024 * 2 ^ k) outline w h p q)
-    × (OnDoor (1024 * 2 ^ k) outline w h p q → OnDoor 1024 (fineOutline outline w h k) (sideAfter k w) (sideAfter k h) p q)
+    (OnDoor 1024 (fineOutline outline w h k) (sideAfter k w) (sideAfter k h) p q →
+    OnDoor (1024 * 2 ^ k) outline w h p q)
+    × (OnDoor (1024 * 2 ^ k) outline w h p q →
+    OnDoor 1024 (fineOutline outline w h k) (sideAfter k w) (sideAfter k h) p q)
 
 -- the fine outline of a connected one is connected (`fine-connected`)
 abbrev pub FineConnected : Type 0

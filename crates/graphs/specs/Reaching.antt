@@ -38,8 +38,8 @@ unfoldable pub allReached : ℕ → (ℕ → Bool) → (ℕ → ℕ → Bool) �
 allReached n inside edge =
     anyBelow n inside && not (anyBelow n (λ t. inside t && not (marked (reached n inside edge n) t)))
 
--- worked cases: of the numbers below 4 joined to their neighbours, all; all but 1; none; 2 and 3; and what is reached
--- after one round
+-- worked cases: of the numbers below 4 joined to their neighbours, all; all but 1; none; 2 and 3; what is reached after
+-- one round, of all, and of 2 and 3 where edges lead up alone; and a number that has no mark
 abbrev line : ℕ → ℕ → Bool
 line a b = eqb (suc a) b || eqb (suc b) a
 
@@ -58,5 +58,7 @@ cases :
     × (allReached 4 (λ t. false) (within (λ t. false)) ≡ false)
     × (allReached 4 fromTwo (within fromTwo) ≡ true)
     × (reached 4 (λ t. true) (within (λ t. true)) 1 ≡ true ∷ true ∷ false ∷ false ∷ [])
+    × (reached 4 fromTwo (λ a b. eqb (suc a) b) 1 ≡ false ∷ false ∷ true ∷ true ∷ [])
+    × (marked (true ∷ []) 1 ≡ false)
 unfolding reached allReached runs
-cases = (refl, refl, refl, refl, refl)
+cases = (refl, refl, refl, refl, refl, refl, refl)

@@ -1,12 +1,12 @@
 -- The computed answer tells whether the present triangles are connected: bytes and triangles correspond, and so do the
 -- walks over them.
 use mathlib.Core.Path.{_≡_, ap, subst, _∙_}
-use mathlib.Core.Bool.{Bool, true, _&&_, not, and-eq-true-iff, and-comm}
+use mathlib.Core.Bool.{true, _&&_, not, and-eq-true-iff, and-comm}
 use mathlib.Core.List.{List}
 use mathlib.Core.Logic.{inl, inr, ⊎-elim}
 use Prim.Native.Nat.{ℕ, _<_}
 use Rattle.net.specs.Net.{Triangle}
-use Rattle.graphs.specs.Walks.{Walk, start, step, ConnectedBy, Judged}
+use Rattle.graphs.specs.Walks.{Walk, start, step, ConnectedBy}
 use Rattle.graphs.proofs.Tests.{both}
 use Rattle.graphs.proofs.WalkLaws.{walk-along, walk-map, judged-once, judged-for}
 use Rattle.graphs.proofs.Reaching.{reaching-judged}

@@ -1,4 +1,5 @@
--- What the search is known to be after a call: unchanged where a fault before 14 is there, else free in its first numbers.
+-- What the search is known to be after a call: unchanged where a fault before 14 is there, else free in its first
+-- numbers.
 use mathlib.Core.Path.{_≡_, refl, subst}
 use mathlib.Core.List.{List}
 use Prim.Native.Nat.{ℕ}

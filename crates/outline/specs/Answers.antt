@@ -6,7 +6,7 @@ use Prim.Native.Nat.{ℕ}
 use Rattle.exact.specs.Filling.{runs}
 use Rattle.net.specs.Refusals.{answerBy}
 use Rattle.graphs.specs.Reaching.{reached, allReached}
-use Rattle.outline.specs.Connected.{connected}
+use Rattle.outline.specs.Connected.{connected, columnOfTwo}
 use Rattle.outline.specs.Refusals.{badByte, checkRefusal}
 use Rattle.outline.specs.declared.answers.CheckAnswer.{CheckAnswer}
 use Rattle.outline.specs.declared.answers.CheckAnswer.the-variants as answer
@@ -20,14 +20,15 @@ checkOutcome (answer.Refused n) = (n, false)
 abbrev pub checkAnswer : List ℕ → ℕ → ℕ → ℕ → ℕ × Bool
 checkAnswer outline w h room = answerBy (checkRefusal outline w h room)
 
--- worked cases: outcomes of answers; of 3 by 2, the whole strip, its two ends, and the sides exchanged
+-- worked cases: outcomes of answers; of 3 by 2, the whole strip and its two ends; bytes 3 and 8 of 4 by 3, and the
+-- sides exchanged
 outcomes : (checkOutcome answer.Done ≡ (0, true)) × (checkOutcome (answer.Refused 14) ≡ (14, false))
 outcomes = (refl, refl)
 
 answers :
     (checkAnswer (1 ∷ 1 ∷ 1 ∷ 1 ∷ []) 3 2 4 ≡ (0, true))
     × (checkAnswer (1 ∷ 0 ∷ 0 ∷ 1 ∷ []) 3 2 4 ≡ (14, false))
-    × (checkAnswer (0 ∷ 1 ∷ 1 ∷ 0 ∷ []) 3 2 4 ≡ (0, true))
-    × (checkAnswer (0 ∷ 1 ∷ 1 ∷ 0 ∷ []) 2 3 4 ≡ (0, true))
+    × (checkAnswer columnOfTwo 4 3 12 ≡ (0, true))
+    × (checkAnswer columnOfTwo 3 4 12 ≡ (14, false))
 unfolding badByte connected reached allReached runs
 answers = (refl, refl, refl, refl)

@@ -1,4 +1,4 @@
--- Document 02, a: 'Present triangles must hang together edge to edge', the field's term being connected: one triangle is
+-- Document 02, a: 'Present triangles must hang together edge to edge', the field's term being connected: one is
 -- present, and from each present triangle a walk leads to each other over present triangles, each sharing an edge with
 -- the next.
 use mathlib.Core.Path.{_≡_, refl}
@@ -48,8 +48,10 @@ unfoldable pub connected : List ℕ → ℕ → ℕ → Bool
 connected outline w h = allReached (triangles w h) (presentAt outline) (edgeAt outline w)
 
 -- worked cases, of 3 by 2, whose triangles are a strip of four, and of 3 by 3, eight: all; none; one; the two ends of
--- the strip; two in a row that meet at a vertex alone; the down triangle of a cell with the up triangle above it, and
--- with the up triangle beside it; the up triangle of a row's last cell and the first triangle of the next row
+-- the strip; two up and two down triangles in a row, which meet at a vertex alone; the down triangle of a cell with the
+-- up triangle above it, and with the up triangle beside it; the up triangle of a row's last cell and the first triangle
+-- of the next row. Of 4 by 3, bytes 3 and 8 share an edge, and a byte past the last triangle does not count; byte 2
+-- shares an edge with byte 3, and is missing
 abbrev strip : ℕ → ℕ → ℕ → ℕ → Bool
 strip a b c d = connected (a ∷ b ∷ c ∷ d ∷ []) 3 2
 
@@ -59,9 +61,10 @@ strips :
     × (strip 0 0 1 0 ≡ true)
     × (strip 1 0 0 1 ≡ false)
     × (strip 1 0 1 0 ≡ false)
+    × (strip 0 1 0 1 ≡ false)
     × (strip 0 1 1 0 ≡ true)
 unfolding connected reached allReached runs
-strips = (refl, refl, refl, refl, refl, refl)
+strips = (refl, refl, refl, refl, refl, refl, refl)
 
 squares-of-four :
     (connected (0 ∷ 1 ∷ 0 ∷ 0 ∷ 1 ∷ 0 ∷ 0 ∷ 0 ∷ []) 3 3 ≡ true)
@@ -69,3 +72,16 @@ squares-of-four :
     × (connected (1 ∷ 1 ∷ 1 ∷ 1 ∷ 1 ∷ 1 ∷ 0 ∷ 0 ∷ []) 3 3 ≡ true)
 unfolding connected reached allReached runs
 squares-of-four = (refl, refl, refl)
+
+-- for worked cases here and in the crates above
+abbrev pub columnOfTwo : List ℕ
+columnOfTwo = 0 ∷ 0 ∷ 0 ∷ 1 ∷ 0 ∷ 0 ∷ 0 ∷ 0 ∷ 1 ∷ 0 ∷ 0 ∷ 0 ∷ 1 ∷ []
+
+of-4-by-3 :
+    (connected columnOfTwo 4 3 ≡ true)
+    × (connected columnOfTwo 3 4 ≡ false)
+    × (edgeAt columnOfTwo 4 3 8 ≡ true)
+    × (edgeAt columnOfTwo 4 2 3 ≡ false)
+    × (edgeAt columnOfTwo 4 3 2 ≡ false)
+unfolding connected reached allReached runs
+of-4-by-3 = (refl, refl, refl, refl, refl)

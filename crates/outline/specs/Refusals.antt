@@ -1,6 +1,6 @@
 -- Document 02, a: the rows of an outline, and those of the call that checks one, in the order 1, 2, 13, 5, 14.
 use mathlib.Core.Path.{_≡_, refl}
-use mathlib.Core.Bool.{Bool, true, false, _||_, not, cond}
+use mathlib.Core.Bool.{Bool, false, _||_, not, cond}
 use mathlib.Core.List.{List, [], _∷_, _++_}
 use Prim.Native.Nat.{ℕ}
 use lib.Dec.{ltb}
@@ -11,7 +11,7 @@ use Rattle.net.specs.Net.{numbers, squares}
 use Rattle.net.specs.Refusals.{Fault, firstFault, accepted, badSize, shortNet}
 use Rattle.graphs.specs.Reaching.{reached, allReached}
 use Rattle.outline.specs.Outline.{triangles}
-use Rattle.outline.specs.Connected.{connected}
+use Rattle.outline.specs.Connected.{connected, columnOfTwo}
 
 -- 2: 'a short outline is refused by 2'
 abbrev pub shortOutline : List ℕ → ℕ → ℕ → Bool
@@ -56,7 +56,8 @@ abbrev pub freeSearch : List Fault → ℕ → ℕ → ℕ
 freeSearch before w h = cond (accepted (firstFault before)) (triangles w h) 0
 
 -- worked cases: every fault at once, and then without the one that was found, to none; bytes past the last triangle;
--- an outline and a net that are too short, and a byte of 2; the search that is free after 14, when accepted, and after 5
+-- bytes 3 and 8 of 4 by 3, and the sides exchanged; an outline and a net that are too short, and a byte of 2; the
+-- search that is free after 14, when accepted, and after 5
 order :
     (checkRefusal [] 1026 2 3 ≡ 1)
     × (checkRefusal (1 ∷ 0 ∷ 2 ∷ []) 3 2 3 ≡ 2)
@@ -64,8 +65,17 @@ order :
     × (checkRefusal (1 ∷ 0 ∷ 0 ∷ 1 ∷ []) 3 2 3 ≡ 5)
     × (checkRefusal (1 ∷ 0 ∷ 0 ∷ 1 ∷ []) 3 2 4 ≡ 14)
     × (checkRefusal (1 ∷ 1 ∷ 1 ∷ 1 ∷ 2 ∷ []) 3 2 4 ≡ 0)
+    × (checkRefusal columnOfTwo 4 3 12 ≡ 0)
+    × (checkRefusal columnOfTwo 3 4 12 ≡ 14)
 unfolding badByte connected reached allReached runs
-order = (refl, refl, refl, refl, refl, refl)
+order = (refl, refl, refl, refl, refl, refl, refl, refl)
+
+without-a-net :
+    (firstFault (outlineFaults (0 ∷ 1 ∷ 2 ∷ []) 3 2) ≡ 2)
+    × (firstFault (outlineFaults (0 ∷ 1 ∷ 1 ∷ 2 ∷ []) 3 2) ≡ 13)
+    × (firstFault (outlineFaults (0 ∷ 1 ∷ 1 ∷ 1 ∷ 2 ∷ []) 3 2) ≡ 0)
+unfolding badByte
+without-a-net = (refl, refl, refl)
 
 with-a-net :
     (firstFault (outlinedFaults (squares (numbers 3 2)) 3 2 (0 ∷ 1 ∷ 1 ∷ 1 ∷ 2 ∷ [])) ≡ 0)

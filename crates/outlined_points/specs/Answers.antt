@@ -1,5 +1,5 @@
--- Document 02, a: what the calls with an outline answer, and what the Bézier net leaves in lent memory. The results are
--- those of the plain calls: 'Points on the door are computed as before'.
+-- Document 02, a: what the calls with an outline answer, and what the Bézier net leaves in lent memory. The results
+-- are those of the plain calls: 'Points on the door are computed as before'.
 use mathlib.Core.Path.{_≡_, refl}
 use mathlib.Core.Bool.{Bool, true, false, cond}
 use mathlib.Core.List.{List, [], _∷_}

@@ -89,8 +89,8 @@ point-order = (refl, refl, refl, refl, refl, refl, refl, refl, refl, refl)
 
 -- place (1024, 300) on the edge between the down triangle of cell (0, 0) and the up triangle of cell (1, 0), which is
 -- chosen: accepted where only the other is present, and not where neither is; 3 looks at the chosen one, which has
--- vertex (2, 0), while place (1000, 300) lies in the other alone. A byte above 1 counts wherever it stands, and one past
--- the last triangle does not
+-- vertex (2, 0), while place (1000, 300) lies in the other alone. A byte above 1 counts wherever it stands, and not
+-- past the last triangle
 edges :
     (outlinedPointRefusal zeros32 3 2 (0 ∷ 1 ∷ 0 ∷ 0 ∷ []) 1024 300 false ≡ 0)
     × (outlinedPointRefusal zeros32 3 2 (1 ∷ 0 ∷ 0 ∷ 1 ∷ []) 1024 300 false ≡ 15)

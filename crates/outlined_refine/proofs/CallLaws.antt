@@ -1,7 +1,7 @@
 -- What is known where no fault before 14 is there, and what the calls that refine with an outline leave then.
-use mathlib.Core.Path.{_≡_, refl, sym, ap, subst, _∙_}
-use mathlib.Core.Bool.{Bool, true, false, not, cond, _||_}
-use mathlib.Core.List.{List, [], _∷_, _++_}
+use mathlib.Core.Path.{_≡_, refl, ap, subst, _∙_}
+use mathlib.Core.Bool.{true, false, not, cond}
+use mathlib.Core.List.{List, _++_}
 use Prim.Native.Nat.{ℕ, _≤_}
 use lib.Dec.{ltb, lit<}
 use lib.IntN.{ℤ}
@@ -9,7 +9,7 @@ use lib.ListN.{length}
 use borrow.Author.Tests.{ltb-false}
 use Rattle.exact.specs.Filling.{over, UnchangedFrom}
 use Rattle.net.specs.Refusals.{Fault, firstFault, badSize, shortNet, netBeyond, outputAfter}
-use Rattle.net.proofs.Faults.{Clear, Numbered, none-clear, clear-parts, fault-after, or-none, cond-true, cond-false, when-refused}
+use Rattle.net.proofs.Faults.{Clear, Numbered, none-clear, fault-after, or-none, cond-true, cond-false, when-refused}
 use Rattle.outline.specs.Outline.{triangles}
 use Rattle.outline.specs.Connected.{connected}
 use Rattle.outline.specs.Refusals.{shortOutline, badByte, shortSearch, outlinedFaults, freeSearch}

@@ -2,15 +2,16 @@
 use mathlib.Core.Path.{_≡_, refl}
 use mathlib.Core.Bool.{Bool, true, false, _||_}
 use mathlib.Core.List.{List, [], _∷_, _++_}
-use Prim.Native.Nat.{ℕ}
+use Prim.Native.Nat.{ℕ, _+_}
 use lib.Dec.{ltb}
-use lib.IntN.{ℤ}
+use lib.IntN.{ℤ, pos}
+use lib.ListN.{replicate, set}
 use Rattle.exact.specs.Filling.{runs}
 use Rattle.net.specs.Net.{numbers}
 use Rattle.net.specs.Refusals.{Fault, firstFault, netBeyond, zeros, tooLarge, tooFew}
 use Rattle.graphs.specs.Reaching.{reached, allReached}
 use Rattle.outline.specs.Outline.{triangles}
-use Rattle.outline.specs.Connected.{connected}
+use Rattle.outline.specs.Connected.{connected, columnOfTwo}
 use Rattle.outline.specs.Refusals.{badByte, outlinedFaults, disconnected, shortSearch}
 use Rattle.subdivision.specs.Refinement.{sideAfter}
 use Rattle.refine.specs.Refusals.{tooShort, sizeFaults}
@@ -34,8 +35,9 @@ abbrev pub outlinedRefusal : List ℤ → ℕ → ℕ → ℕ → List ℕ → B
 outlinedRefusal net w h k outline short =
     firstFault (faultsBefore net w h k outline short ++ lateFaults net w h outline)
 
--- worked cases: the lengths that two steps of 3 by 2, which make 9 by 5, need, not exchanged; and the order, every fault
--- at once and then without the one that was found, to none
+-- worked cases: the lengths that two steps of 3 by 2, which make 9 by 5, need, not exchanged; the order, every fault at
+-- once and then without the one that was found, to none; of 4 by 3, bytes 3 and 8, with a number beyond the range past
+-- the last vertex, the sides exchanged, and with the net's last number beyond it
 lengths :
     (outlinedShort 3 2 2 (numbers 9 5) (numbers 5 3) 64 4 ≡ false)
     × (outlinedShort 3 2 2 (numbers 9 5) (numbers 5 3) 63 4 ≡ true)
@@ -56,3 +58,13 @@ order :
     × (outlinedRefusal zeros 2 2 1 (0 ∷ 1 ∷ []) false ≡ 0)
 unfolding netBeyond badByte connected reached allReached runs
 order = (refl, refl, refl, refl, refl, refl, refl, refl, refl)
+
+abbrev beyondAt : ℕ → List ℤ
+beyondAt n = set (replicate (numbers 4 3 + 1) (pos 0)) n (pos 16777217)
+
+of-4-by-3 :
+    (outlinedRefusal (beyondAt 108) 4 3 1 columnOfTwo false ≡ 0)
+    × (outlinedRefusal (beyondAt 108) 3 4 1 columnOfTwo false ≡ 14)
+    × (outlinedRefusal (beyondAt 107) 4 3 1 columnOfTwo false ≡ 3)
+unfolding netBeyond badByte connected reached allReached runs
+of-4-by-3 = (refl, refl, refl)

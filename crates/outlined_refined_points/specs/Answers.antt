@@ -8,7 +8,7 @@ use lib.ListN.{replicate}
 use Rattle.exact.specs.Rounding.{rounded, floorQuotient}
 use Rattle.exact.specs.Filling.{runs}
 use Rattle.net.specs.Net.{controlPoint, controlTriangle, grid, squares}
-use Rattle.net.specs.Refusals.{Fault, accepted, netBeyond}
+use Rattle.net.specs.Refusals.{Fault, firstFault, accepted, netBeyond}
 use Rattle.graphs.specs.Reaching.{reached, allReached}
 use Rattle.outline.specs.Connected.{connected}
 use Rattle.outline.specs.Refusals.{badByte}
@@ -39,16 +39,26 @@ outlinedRefinedAnswer net w h k outline p q other out scratch fine search = (
 )
 
 -- worked cases: of the net of 2 by 3 whose numbers are the squares, after one step, with the down triangle of cell
--- (0, 0) and the up triangle above it: a point of the second; another output that is too short; and a place off the
--- door
-abbrev answerOf : Bool → ℕ → ℕ → ℕ × List ℤ
-answerOf other p q =
-    outlinedRefinedAnswer (squares 54) 2 3 1 (0 ∷ 1 ∷ 1 ∷ 0 ∷ []) p q other (replicate 135 (pos 0)) [] (replicate 16 7)
-    (replicate 4 9)
+-- (0, 0) and the up triangle above it: a point of the second; another output that is too short, and a search; and a
+-- place off the door; and the first fault before 14 where the search is too short
+abbrev twoOf : List ℕ
+twoOf = 0 ∷ 1 ∷ 1 ∷ 0 ∷ []
+
+abbrev answerOf : Bool → ℕ → ℕ → ℕ → ℕ × List ℤ
+answerOf other room p q =
+    outlinedRefinedAnswer (squares 54) 2 3 1 twoOf p q other (replicate 135 (pos 0)) [] (replicate 16 7) (replicate room 9)
 
 answers :
-    (answerOf false 500 2500 ≡ (0, pos 660 ∷ pos 710 ∷ pos 761 ∷ []))
-    × (answerOf true 500 2500 ≡ (5, []))
-    × (answerOf false 500 500 ≡ (15, []))
+    (answerOf false 4 500 2500 ≡ (0, pos 660 ∷ pos 710 ∷ pos 761 ∷ []))
+    × (answerOf true 4 500 2500 ≡ (5, []))
+    × (answerOf false 3 500 2500 ≡ (5, []))
+    × (answerOf false 4 500 500 ≡ (15, []))
 unfolding netBeyond badByte onDoor connected reached allReached coordinate spline refinedNet stored grid runs refinement exactRefinement rounded floorQuotient controlTriangle controlPoint
-answers = (refl, refl, refl)
+answers = (refl, refl, refl, refl)
+
+short-search :
+    firstFault
+    (pointFaultsOf (squares 54) 2 3 1 twoOf 500 2500 false (replicate 135 (pos 0)) [] (replicate 16 7) (replicate 3 9))
+    ≡ 5
+unfolding badByte onDoor
+short-search = refl

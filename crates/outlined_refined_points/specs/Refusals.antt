@@ -8,7 +8,7 @@ use Rattle.exact.specs.Filling.{runs}
 use Rattle.net.specs.Net.{numbers, squares}
 use Rattle.net.specs.Refusals.{Fault, firstFault, netBeyond, zeros, tooLarge, tooFew}
 use Rattle.graphs.specs.Reaching.{reached, allReached}
-use Rattle.outline.specs.Connected.{connected}
+use Rattle.outline.specs.Connected.{connected, columnOfTwo}
 use Rattle.outline.specs.Refusals.{badByte, outlinedFaults}
 use Rattle.door.specs.Door.{onDoor}
 use Rattle.bounds.specs.DemandThree.{fineEdge}
@@ -47,7 +47,7 @@ order = (refl, refl, refl, refl, refl, refl, refl, refl, refl)
 
 -- of the net of 3 by 2 whose numbers are the squares, after one step: the two ends of the strip at a place of the last
 -- cell and at one between them; a place of the up triangle of cell (1, 0), and the same with p and q exchanged; the
--- sides exchanged
+-- sides exchanged; bytes 3 and 8 of 4 by 3, at a place of the first
 abbrev at : List ℕ → ℕ → ℕ → ℕ
 at outline p q = outlinedRefinedRefusal (squares (numbers 3 2)) 3 2 1 outline p q false
 
@@ -58,5 +58,6 @@ on-the-strip :
     × (at (0 ∷ 0 ∷ 1 ∷ 0 ∷ []) 500 2000 ≡ 15)
     × (at (0 ∷ 0 ∷ 1 ∷ 0 ∷ []) 500 2200 ≡ 6)
     × (outlinedRefinedRefusal (squares (numbers 3 2)) 2 3 1 (0 ∷ 0 ∷ 1 ∷ 0 ∷ []) 500 2200 false ≡ 0)
+    × (outlinedRefinedRefusal (squares (numbers 4 3)) 4 3 1 columnOfTwo 3000 1500 false ≡ 0)
 unfolding netBeyond badByte onDoor connected reached allReached runs
-on-the-strip = (refl, refl, refl, refl, refl, refl)
+on-the-strip = (refl, refl, refl, refl, refl, refl, refl)

@@ -1,6 +1,6 @@
 -- `outline::bytes::outlined_refusal` meets its contract: where the net is long enough, the faults are the outline's.
-use mathlib.Core.Path.{_≡_, refl, sym, ap, _∙_}
-use mathlib.Core.Bool.{Bool, false, cond}
+use mathlib.Core.Path.{refl, sym, ap, _∙_}
+use mathlib.Core.Bool.{Bool, cond}
 use borrow.Author.Needs.{needs}
 use Rattle.net.specs.Refusals.{shortNet}
 use Rattle.net.proofs.Faults.{or-yes, or-no, cond-true}

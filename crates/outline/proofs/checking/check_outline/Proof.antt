@@ -1,8 +1,8 @@
--- `outline::checking::check_outline` meets its contract: after the faults before 14 the search tells whether the present
--- triangles are connected.
-use mathlib.Core.Path.{_≡_, refl, sym, ap, _∙_}
+-- `outline::checking::check_outline` meets its contract: after the faults before 14 the search tells whether the
+-- present triangles are connected.
+use mathlib.Core.Path.{_≡_, sym, ap, _∙_}
 use mathlib.Core.Bool.{Bool, true, false, not, cond}
-use mathlib.Core.List.{List, [], _∷_, _++_}
+use mathlib.Core.List.{List, [], _∷_}
 use Prim.Native.Nat.{ℕ}
 use native.Mathlib.Omega.{arith}
 use lib.Dec.{lit<}
@@ -10,7 +10,7 @@ use lib.ListN.{length}
 use borrow.Author.Needs.{needs}
 use borrow.Author.Tests.{ltb-false}
 use Rattle.net.specs.Refusals.{Fault, firstFault}
-use Rattle.net.proofs.Faults.{Clear, none-clear, cond-true, cond-false, fault-before, fault-after, carried-out, not-carried-out}
+use Rattle.net.proofs.Faults.{Clear, none-clear, fault-before, fault-after, carried-out, not-carried-out}
 use Rattle.outline.specs.Connected.{connected}
 use Rattle.outline.specs.Refusals.{checkFaults, checkRefusal, disconnected}
 use Rattle.outline.proofs.Searching.{search-kept, search-free}

@@ -1,6 +1,6 @@
 -- `outlined_refine::faults::refusal_before` meets its contract: each branch is the first fault that is there.
 use mathlib.Core.Path.{_≡_, refl, sym, _∙_}
-use mathlib.Core.Bool.{Bool, false}
+use mathlib.Core.Bool.{Bool}
 use mathlib.Core.List.{List, [], _∷_, _++_}
 use lib.Dec.{lit<}
 use borrow.Author.Needs.{needs}

@@ -1,7 +1,6 @@
 -- `outlined_refine::refining::refine_outlined` meets its contract: past the faults before 14 the search decides 14, and
 -- plain refining 3.
 use mathlib.Core.Path.{_≡_, sym, ap, _∙_}
-use mathlib.Core.Bool.{Bool, true, false}
 use mathlib.Core.List.{List}
 use Prim.Native.Nat.{ℕ}
 use native.Mathlib.Omega.{arith}
@@ -11,7 +10,6 @@ use borrow.Author.Needs.{needs}
 use borrow.Author.Tests.{not-true, not-false}
 use Rattle.net.specs.Refusals.{Fault, firstFault, answerBy}
 use Rattle.net.proofs.Faults.{Numbered, fault-before, not-carried-out}
-use Rattle.outline.specs.Connected.{connected}
 use Rattle.outline.proofs.Searching.{search-kept, search-free}
 use Rattle.refine.proofs.Depths.{good-depth}
 use Rattle.outlined_refine.specs.Refusals.{lateFaults}

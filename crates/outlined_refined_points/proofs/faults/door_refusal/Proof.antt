@@ -1,17 +1,15 @@
 -- `outlined_refined_points::faults::door_refusal` meets its contract: each branch is the first fault that is there.
 use mathlib.Core.Path.{_≡_, refl, sym, ap, _∙_}
-use mathlib.Core.Bool.{Bool, true, false, not, cond}
+use mathlib.Core.Bool.{not}
 use mathlib.Core.List.{List, [], _∷_}
-use Prim.Native.Nat.{ℕ, _≤_}
+use Prim.Native.Nat.{ℕ}
 use native.Mathlib.Omega.{arith}
 use lib.Dec.{lit<}
-use lib.ListN.{length}
 use borrow.Author.Needs.{needs}
 use borrow.Author.Tests.{ltb-false}
-use Rattle.net.specs.Refusals.{Fault, firstFault, badSize, shortNet}
+use Rattle.net.specs.Refusals.{Fault, shortNet}
 use Rattle.net.proofs.Faults.{Clear, none-clear, or-none, cond-true, cond-false, fault-before, fault-after}
 use Rattle.places.specs.Refusals.{noPlace}
-use Rattle.outline.specs.Outline.{triangles}
 use Rattle.outline.specs.Refusals.{shortOutline, outlinedFaults}
 use Rattle.door.specs.Door.{onDoor}
 use Rattle.steps.specs.Steps.{Depth}

@@ -1,22 +1,18 @@
 -- `outlined_refined_points::points::refined_point_outlined_with` meets its contract: past the faults before 14 the
 -- search decides 14, and plain refining and its point 3, with demand 3.
-use mathlib.Core.Path.{_≡_, sym, ap, subst, _∙_}
-use mathlib.Core.Bool.{true, false}
+use mathlib.Core.Path.{_≡_, sym, _∙_}
 use mathlib.Core.List.{List}
 use Prim.Native.Nat.{ℕ}
 use native.Mathlib.Omega.{arith}
 use lib.Dec.{lit<}
-use lib.IntN.{ℤ}
-use lib.ListN.{length}
 use borrow.Author.Needs.{needs}
 use borrow.Author.Tests.{not-true, not-false}
 use Rattle.net.specs.Refusals.{Fault, firstFault}
-use Rattle.net.proofs.Faults.{Numbered, fault-before, refused-answer}
+use Rattle.net.proofs.Faults.{Numbered, fault-before}
 use Rattle.outline.proofs.Searching.{search-kept, search-free}
 use Rattle.refine.proofs.Depths.{good-depth}
-use Rattle.refined_points.specs.Answers.{refinedSurfacePoint}
 use Rattle.outlined_refine.specs.Refusals.{lateFaults}
-use Rattle.outlined_refine.proofs.CallLaws.{Searchable, refused-apart, refused-range, left-refused, left-by}
+use Rattle.outlined_refine.proofs.CallLaws.{refused-apart, refused-range}
 use Rattle.outlined_refined_points.specs.Answers.{pointFaultsOf, outlinedRefusalAt}
 use Rattle.outlined_refined_points.proofs.CallLaws.{PointSearchable, searchable-at, plain-point-refusal, refused-contract, plain-contract}
 use Rattle.outlined_refined_points.proofs.points.refined_point_outlined_with.Statement.{statement}
