@@ -94,9 +94,6 @@ module _ (outline rest : List ℕ) (w h k : ℕ) where
   fine-back : SameBytes W H fine (over fine rest)
   fine-back = same-back W H (over fine rest) fine fine-front
 
-  pub front-present : (t : Triangle) → OfNet W H t → present (over fine rest) W t ≡ present fine W t
-  front-present = same-present W H (over fine rest) fine fine-front
-
   pub front-door : (D p q : ℕ) →
       (OnDoor D (over fine rest) W H p q → OnDoor D fine W H p q)
       × (OnDoor D fine W H p q → OnDoor D (over fine rest) W H p q)
@@ -116,11 +113,6 @@ pub fine-all : (P : ℕ → Type 0) (outline : List ℕ) (w h k : ℕ) → 2 ≤
 fine-all P outline w h k wide high all n a =
     subst P (sym (fine-byte outline w h k n a))
     (all (byteOf w (parent k (triangleOf (sideAfter k w) n))) (parent-byte w h k n wide high a))
-
-pub fine-full : (outline : List ℕ) (w h k : ℕ) → 2 ≤ w → 2 ≤ h →
-    ((n : ℕ) → n < triangles w h → getD outline n 0 ≡ 1) →
-    (n : ℕ) → n < triangles (sideAfter k w) (sideAfter k h) → getD (fineOutline outline w h k) n 0 ≡ 1
-fine-full = fine-all (λ b. b ≡ 1)
 
 pub fine-bytes : (outline : List ℕ) (w h k : ℕ) → 2 ≤ w → 2 ≤ h → badByte outline w h ≡ false →
     triangles w h ≤ length outline → badByte (fineOutline outline w h k) (sideAfter k w) (sideAfter k h) ≡ false

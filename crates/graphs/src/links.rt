@@ -19,7 +19,7 @@ pub fn link_self(links: &mut [u32])
 }
 
 // Where the links from t end.
-pub fn root_of(links: &[u32], t: usize) -> usize
+fn root_of(links: &[u32], t: usize) -> usize
     requires { ⌜ (t < length (now links)) × Linked (now links) ⌝ }
     ensures { λ r. ⌜ Root (now (links .entry)) t r ⌝ }
 {
