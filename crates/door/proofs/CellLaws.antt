@@ -161,8 +161,8 @@ module _ (D : ℕ) (outline : List ℕ) (w h p q : ℕ) where
       Judged (OnDoor D outline w h p q) (fourCells (p / D) (q / D) (p / D - 1) (q / D - 1))
   four-judged d =
       record {
-        yes = four-tell (p / D) (q / D) (p / D - 1) (q / D - 1);
-        no = λ e o.
+        told = four-tell (p / D) (q / D) (p / D - 1) (q / D - 1);
+        denied = λ e o.
             let t = o .triangle in
             let x = lies-across D p q t (o .lies) in
             let here = told-by-cell D outline w h p q (t .column) (t .row) (t .down) (o .has .0) (o .has .1) (o .lies) in

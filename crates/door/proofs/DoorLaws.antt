@@ -42,7 +42,7 @@ pub on-door-judged : OnDoorJudged
 unfolding onDoor
 on-door-judged D outline w h p q _ _ =
     record {
-      yes = λ e.
+      told = λ e.
           let k = any-some (triangles w h) has e in
           let n = k .0 in
           let b = and-eq-true-iff (presentAt outline n) (liesIn D p q (triangleOf w n)) .0 (k .2) in
@@ -54,7 +54,7 @@ on-door-judged D outline w h p q _ _ =
             );
             lies = lies-told D p q (triangleOf w n) .0 (b .1);
           };
-      no = λ e o.
+      denied = λ e o.
           let t = o .triangle in
           let there : has (byteOf w t) ≡ true =
           both (presentAt outline (byteOf w t)) (liesIn D p q (triangleOf w (byteOf w t))) (o .has .1)

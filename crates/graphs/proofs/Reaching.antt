@@ -246,7 +246,7 @@ module _ (n : ℕ) (inside : ℕ → Bool) (edge : ℕ → ℕ → Bool) where
         (ConnectedBy (λ t. (t < n) × (inside t ≡ true)) (λ u v. (u < n) × (v < n) × (edge u v ≡ true)))
         (allReached n inside edge)
     unfolding allReached
-    reaching-judged = record { yes = yes-case; no = no-case }
+    reaching-judged = record { told = yes-case; denied = no-case }
       where
         yes-case : (anyBelow n inside && not (anyBelow n missed)) ≡ true → ConnectedBy Inside Edge
         yes-case e =

@@ -36,19 +36,19 @@ module _ {A B : Type 0} {Edge : A → A → Type 0} {Edge′ : B → B → Type 
 
 pub judged-once : {H : Type 0} {a b : Bool} → Judged H a → Judged H b → a ≡ b
 judged-once {a = true} {b = true} j k = refl
-judged-once {a = true} {b = false} j k = absurd (k .no refl (j .yes refl))
-judged-once {a = false} {b = true} j k = absurd (j .no refl (k .yes refl))
+judged-once {a = true} {b = false} j k = absurd (k .denied refl (j .told refl))
+judged-once {a = false} {b = true} j k = absurd (j .denied refl (k .told refl))
 judged-once {a = false} {b = false} j k = refl
 
 -- the truth value where it holds, and where it does not
 pub judged-yes : {H : Type 0} {b : Bool} → Judged H b → H → b ≡ true
 judged-yes {b = true} j k = refl
-judged-yes {b = false} j k = absurd (j .no refl k)
+judged-yes {b = false} j k = absurd (j .denied refl k)
 
 pub judged-no : {H : Type 0} {b : Bool} → Judged H b → (H → ⊥) → b ≡ false
-judged-no {b = true} j k = absurd (k (j .yes refl))
+judged-no {b = true} j k = absurd (k (j .told refl))
 judged-no {b = false} j k = refl
 
 -- what holds exactly where something else does is told by the same truth value
 pub judged-for : {H K : Type 0} {b : Bool} → (H → K) → (K → H) → Judged H b → Judged K b
-judged-for f g j = record { yes = λ e. f (j .yes e); no = λ e k. j .no e (g k) }
+judged-for f g j = record { told = λ e. f (j .told e); denied = λ e k. j .denied e (g k) }

@@ -14,5 +14,5 @@ ConnectedBy {A} In Edge = ((t : A) × In t) × ((t u : A) → In t → In u → 
 
 -- b is true exactly where it holds, so b is determined (`judged-once` in proofs/WalkLaws.antt)
 pub record Judged (holds : Type 0) (b : Bool) : Type 0 where
-  pub yes : b ≡ true → holds
-  pub no : b ≡ false → holds → ⊥
+  pub told : b ≡ true → holds
+  pub denied : b ≡ false → holds → ⊥

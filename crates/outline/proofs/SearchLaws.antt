@@ -312,6 +312,6 @@ module _ (outline : List ℕ) (w h : ℕ) where
         let f = isRoot outline links in
         let n = length links in
         record {
-          yes = λ e. to-connected (count-one n f (eqb-true (roots outline links n) 1 e));
-          no = λ e c. eqb-false (roots outline links n) 1 e (one-counted n f (from-connected c));
+          told = λ e. to-connected (count-one n f (eqb-true (roots outline links n) 1 e));
+          denied = λ e c. eqb-false (roots outline links n) 1 e (one-counted n f (from-connected c));
         }

@@ -68,7 +68,7 @@ module _ (outline fine : List ℕ) (w h k : ℕ) where
       let five = le-ltb room (triangles W H) r in
       let walks : Connected after W H =
       front-connected outline fine w h k .1
-      (fine-connected outline w h k (s .wide) (s .high) (connected-judged outline w h .yes c)) in
+      (fine-connected outline w h k (s .wide) (s .high) (connected-judged outline w h .told c)) in
       let fourteen = ap not (judged-yes (connected-judged after W H) walks) in
       clear-none (checkFaults after W H room ++ (disconnected after W H, 14) ∷ [])
       (one, (two, (thirteen, (five, (fourteen, tt)))))
