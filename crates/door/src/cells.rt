@@ -58,7 +58,8 @@ fn previous(n: usize) -> usize
 }
 
 // Whether place (p, q), in d-ths of an edge, lies in a present triangle. The cells that can have it are those of
-// column p/d and of the column before, where the place may lie on the edge between them, and of rows so.
+// column p/d and of the column before, where the place may lie on the edge between them, and of rows so. For the calls
+// on points with an outline, which have refused every other size, outline and place.
 pub fn on_door(outline: &[u8], w: usize, h: usize, d: usize, p: usize, q: usize) -> bool
     requires { ⌜ (badSize w h ≡ false) × (triangles w h ≤ length (now outline)) × (0 < d) × (d ≤ 65536)
         × (noPlace d w h p q ≡ false) ⌝ }

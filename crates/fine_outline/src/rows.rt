@@ -55,8 +55,8 @@ fn write_row(outline: &[u8], w: usize, h: usize, s: usize, r: usize, fine: &mut 
     }
 }
 
-// The outline of the net after k steps, over the front of `fine`. For `refine`, which has refused every other size, k
-// and length.
+// The outline of the net after k steps, over the front of `fine`. For `outlined_refine` and `outlined_refined_points`,
+// which have refused every other size, k and length.
 pub fn write_fine_outline(outline: &[u8], w: usize, h: usize, k: usize, fine: &mut [u8])
     requires { ⌜ Depth w h k × (triangles w h ≤ length (now outline))
         × (triangles (sideAfter k w) (sideAfter k h) ≤ length (now fine)) ⌝ }

@@ -6,7 +6,7 @@ ghost use lib.ListN.{length};
 ghost use Rattle.exact.specs.Filling.{runs};
 ghost use Rattle.graphs.specs.Links.{Linked, Root, JoinedAt};
 
-// Each number links to itself.
+// Each number links to itself. For the search of `outline`, which has at most so many triangles.
 pub fn link_self(links: &mut [u32])
     requires { ⌜ length (now links) ≤ 2097152 ⌝ }
     ensures { λ r. ⌜ now (links .exit) ≡ runs (length (now (links .entry))) (λ t. t ∷ []) ⌝ }
@@ -32,7 +32,8 @@ fn root_of(links: &[u32], t: usize) -> usize
     r
 }
 
-// The two roots become one: the greater links to the smaller.
+// The two roots become one: the greater links to the smaller. For the search of `outline`, which keeps the links going
+// down.
 pub fn join(links: &mut [u32], a: usize, b: usize)
     requires { ⌜ (a < length (now links)) × (b < length (now links)) × (length (now links) ≤ 2097152)
         × Linked (now links) ⌝ }

@@ -25,6 +25,7 @@ anyAboveOne (b ∷ bytes) = ltb 1 b || anyAboveOne bytes
 unfoldable pub badByte : List ℕ → ℕ → ℕ → Bool
 badByte outline w h = anyAboveOne (take (triangles w h) outline)
 
+-- the two rows of an outline alone
 abbrev pub outlineFaults : List ℕ → ℕ → ℕ → List Fault
 outlineFaults outline w h = (shortOutline outline w h, 2) ∷ (badByte outline w h, 13) ∷ []
 

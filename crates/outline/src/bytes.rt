@@ -8,7 +8,7 @@ ghost use Rattle.net.specs.Refusals.{firstFault, badSize};
 ghost use Rattle.outline.specs.Outline.{triangles};
 ghost use Rattle.outline.specs.Refusals.{shortOutline, anyAboveOne, badByte, outlineFaults, outlinedFaults};
 
-// How many triangles a net of an accepted size has. For the crates above; they test the size first.
+// How many triangles a net of an accepted size has. For the search and for `outlined_refine`; they test the size first.
 pub fn count_triangles(w: usize, h: usize) -> usize
     requires { ⌜ badSize w h ≡ false ⌝ }
     ensures { λ r. ⌜ r ≡ triangles w h ⌝ }
@@ -17,7 +17,7 @@ pub fn count_triangles(w: usize, h: usize) -> usize
 }
 
 // Whether an outline has fewer bytes than the net has triangles.
-pub fn short_outline(outline: &[u8], w: usize, h: usize) -> bool
+fn short_outline(outline: &[u8], w: usize, h: usize) -> bool
     requires { ⌜ badSize w h ≡ false ⌝ }
     ensures { λ r. ⌜ r ≡ shortOutline (now (outline .entry)) w h ⌝ }
 {
@@ -38,9 +38,8 @@ fn any_above_one(bytes: &[u8]) -> bool
     bad
 }
 
-// Whether one of the net's bytes is. For the crates above, which have refused every other size and every outline that
-// is too short.
-pub fn bad_byte(outline: &[u8], w: usize, h: usize) -> bool
+// Whether one of the net's bytes is.
+fn bad_byte(outline: &[u8], w: usize, h: usize) -> bool
     requires { ⌜ (badSize w h ≡ false) × (triangles w h ≤ length (now outline)) ⌝ }
     ensures { λ r. ⌜ r ≡ badByte (now (outline .entry)) w h ⌝ }
 {
@@ -48,7 +47,7 @@ pub fn bad_byte(outline: &[u8], w: usize, h: usize) -> bool
     any_above_one(&outline[..n])
 }
 
-// The first of 2 and 13 of an outline, or 0. For the crates above; they test the size first.
+// The first of 2 and 13 of an outline, or 0. For checking and for `outlined_points`; they test the size first.
 pub fn outline_refusal(outline: &[u8], w: usize, h: usize) -> u32
     requires { ⌜ badSize w h ≡ false ⌝ }
     ensures { λ r. ⌜ r ≡ firstFault (outlineFaults (now (outline .entry)) w h) ⌝ }
@@ -62,7 +61,8 @@ pub fn outline_refusal(outline: &[u8], w: usize, h: usize) -> u32
     0
 }
 
-// The first of 2 and 13 of a net with its outline, or 0. For the crates above; they test the size first.
+// The first of 2 and 13 of a net with its outline, or 0. For `outlined_refine` and `outlined_refined_points`; they test
+// the size first.
 pub fn outlined_refusal(net: &[i32], w: usize, h: usize, outline: &[u8]) -> u32
     requires { ⌜ badSize w h ≡ false ⌝ }
     ensures { λ r. ⌜ r ≡ firstFault (outlinedFaults (now (net .entry)) w h (now (outline .entry))) ⌝ }

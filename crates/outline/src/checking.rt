@@ -1,8 +1,7 @@
 // The call that checks an outline by width and height alone.
 use crate::answers::CheckAnswer;
-use crate::bytes::bad_byte;
 use crate::bytes::count_triangles;
-use crate::bytes::short_outline;
+use crate::bytes::outline_refusal;
 use crate::search::is_connected;
 use net::bad_size;
 ghost use mathlib.Core.Path.{_≡_};
@@ -19,11 +18,9 @@ fn refusal_before(outline: &[u8], w: usize, h: usize, room: usize) -> u32
     if bad_size(w, h) {
         return 1;
     }
-    if short_outline(outline, w, h) {
-        return 2;
-    }
-    if bad_byte(outline, w, h) {
-        return 13;
+    let refusal = outline_refusal(outline, w, h);
+    if refusal != 0 {
+        return refusal;
     }
     if room < count_triangles(w, h) {
         return 5;

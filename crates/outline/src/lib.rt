@@ -8,10 +8,8 @@ mod search;
 pub use answers::CheckAnswer;
 pub use checking::check_outline;
 
-// For the crates above, which have refused a size and an outline by 1 and 2 before, and a search by 5.
-pub use bytes::bad_byte;
+// For the crates above, which have refused a size by 1 before, and before the last an outline by 2 and a search by 5.
 pub use bytes::count_triangles;
 pub use bytes::outline_refusal;
 pub use bytes::outlined_refusal;
-pub use bytes::short_outline;
 pub use search::is_connected;

@@ -10,8 +10,8 @@ ghost use Rattle.net.specs.Refusals.{firstFault, badSize};
 ghost use Rattle.refine.specs.Refusals.{tooDeep};
 ghost use Rattle.outlined_refine.specs.Refusals.{outlinedShort, faultsBefore};
 
-// Whether the output, the scratch net, the fine outline or the search is too short. For the crates above too, which
-// have refused a size and a k by 1 and 4.
+// Whether the output, the scratch net, the fine outline or the search is too short. For
+// `outlined_refined_points` too, which has refused a size and a k by 1 and 4.
 pub fn outlined_short(
     w: usize,
     h: usize,
