@@ -48,10 +48,10 @@ unfoldable pub connected : List ℕ → ℕ → ℕ → Bool
 connected outline w h = allReached (triangles w h) (presentAt outline) (edgeAt outline w)
 
 -- worked cases: of 3 by 2, whose triangles are a strip of four, all; none; one; the two ends of the strip; two up and
--- two down triangles, which meet at a vertex alone; and the down triangle of a cell with the up triangle beside it. Of 3
--- by 3, the down triangle of a cell with the up triangle above it; the down triangle of a row's last cell with the first
--- triangle of the next row; and six of the eight. Of 4 by 3, bytes 3 and 8 share an edge, and a byte past the last
--- triangle does not count; byte 2 shares an edge with byte 3, and is missing
+-- two down triangles, which meet at a vertex alone; and the down triangle of a cell with the up triangle beside it. Of
+-- 3 by 3, the down triangle of a cell with the up triangle above it; the down triangle of a row's last cell with the
+-- first triangle of the next row; and six of the eight. Of 4 by 3, bytes 3 and 8 share an edge, and a byte past the
+-- last triangle does not count; byte 2 shares an edge with byte 3, and is missing
 abbrev strip : ℕ → ℕ → ℕ → ℕ → Bool
 strip a b c d = connected (a ∷ b ∷ c ∷ d ∷ []) 3 2
 
