@@ -3,6 +3,8 @@
 //! A line gives the kernel's time, then each other version's and the kernel's over it, all
 //! medians of one run:
 //! - `surface point`, `Bézier net`: one call at a random place or triangle of a net of 17 by 17.
+//!   `steps` is plain Rust that takes de Casteljau's steps, as the library does, and `formula`
+//!   plain Rust by the quadratic formula.
 //! - `refine`: 17 by 17 by six steps to 1,025 by 1,025, 1.05 million vertices. `table` is plain
 //!   Rust with the weight table, `kinds` is Rust written out for each kind of vertex, `copy`
 //!   copies the result.
@@ -69,20 +71,23 @@ impl Random {
 /// the same in every version.
 type Pass<'a> = Box<dyn FnMut() -> i64 + 'a>;
 
-/// One computation in both versions, which hand back the sum of their results.
+/// One computation in each version, which hand back the sum of their results; the kernel's is
+/// the first.
 struct Subject<'a> {
     name: &'static str,
     calls: usize,
-    kernel: Pass<'a>,
-    plain: Pass<'a>,
+    versions: Vec<Pass<'a>>,
 }
 
 impl Subject<'_> {
     fn measure(self) {
-        let times = medians(self.name, PASSES, || (), vec![self.kernel, self.plain]);
-        let [kernel, plain] = [times[0], times[1]].map(|time| time / self.calls as f64);
-        let ratio = kernel / plain;
-        println!("{:<16}{kernel:>10.1}{plain:>10.1}{ratio:>8.2}", self.name);
+        let times = medians(self.name, PASSES, || (), self.versions);
+        let kernel = times[0];
+        print!("{:<16}{:>10.1}", self.name, kernel / self.calls as f64);
+        for other in &times[1..] {
+            print!("{:>10.1}{:>8.2}", other / self.calls as f64, kernel / other);
+        }
+        println!();
     }
 }
 
@@ -118,35 +123,40 @@ fn sum(numbers: &[i32]) -> i64 {
     numbers.iter().map(|&x| i64::from(x)).sum()
 }
 
+/// A pass over places in one version of a surface point.
+fn points_at<'a>(
+    net: &'a [i32],
+    places: &[(usize, usize)],
+    version: impl Fn(&[i32], Size, (usize, usize), &mut [i32]) -> Result<(), Refusal> + 'a,
+) -> Pass<'a> {
+    let places = places.to_vec();
+    Box::new(move || {
+        let mut total = 0;
+        for &place in black_box(&places) {
+            let mut out = [0; POINT];
+            assert_eq!(version(net, (SIDE, SIDE), place, &mut out), Ok(()));
+            total += sum(black_box(&out));
+        }
+        total
+    })
+}
+
 fn surface_point<'a>(net: &'a [i32], random: &mut Random) -> Subject<'a> {
     let last = 1024 * (SIDE - 1);
     let places: Vec<(usize, usize)> = (0..CALLS)
         .map(|_| (random.below(last + 1), random.below(last + 1)))
         .collect();
-    let same = places.clone();
+    let kernel = |net: &[i32], (w, h): Size, (p, q): (usize, usize), out: &mut [i32]| {
+        answer(lent::surface_point(net, w, h, p, q, out))
+    };
     Subject {
         name: "surface point",
         calls: CALLS,
-        kernel: Box::new(move || {
-            let mut total = 0;
-            for &(p, q) in black_box(&places) {
-                let mut out = [0; POINT];
-                let answer = lent::surface_point(net, SIDE, SIDE, p, q, &mut out);
-                assert_eq!(answer, Ok(()));
-                total += sum(black_box(&out));
-            }
-            total
-        }),
-        plain: Box::new(move || {
-            let mut total = 0;
-            for &(p, q) in black_box(&same) {
-                let mut out = [0; POINT];
-                let answer = plain::surface_point(net, (SIDE, SIDE), (p, q), &mut out);
-                assert_eq!(answer, Ok(()));
-                total += sum(black_box(&out));
-            }
-            total
-        }),
+        versions: vec![
+            points_at(net, &places, kernel),
+            points_at(net, &places, plain::surface_point_by_steps),
+            points_at(net, &places, plain::surface_point),
+        ],
     }
 }
 
@@ -161,26 +171,28 @@ fn bezier_net<'a>(net: &'a [i32], random: &mut Random) -> Subject<'a> {
     Subject {
         name: "Bézier net",
         calls: CALLS,
-        kernel: Box::new(move || {
-            let mut total = 0;
-            for &(i, j, down) in black_box(&triangles) {
-                let mut out = [0; BEZIER];
-                let answer = lent::bezier_net(net, SIDE, SIDE, i, j, down == 1, &mut out);
-                assert_eq!(answer, Ok(()));
-                total += sum(black_box(&out));
-            }
-            total
-        }),
-        plain: Box::new(move || {
-            let mut total = 0;
-            for &(i, j, down) in black_box(&same) {
-                let mut out = [0; BEZIER];
-                let answer = plain::bezier_net(net, (SIDE, SIDE), (i, j), down, &mut out);
-                assert_eq!(answer, Ok(()));
-                total += sum(black_box(&out));
-            }
-            total
-        }),
+        versions: vec![
+            Box::new(move || {
+                let mut total = 0;
+                for &(i, j, down) in black_box(&triangles) {
+                    let mut out = [0; BEZIER];
+                    let answer = lent::bezier_net(net, SIDE, SIDE, i, j, down == 1, &mut out);
+                    assert_eq!(answer, Ok(()));
+                    total += sum(black_box(&out));
+                }
+                total
+            }),
+            Box::new(move || {
+                let mut total = 0;
+                for &(i, j, down) in black_box(&same) {
+                    let mut out = [0; BEZIER];
+                    let answer = plain::bezier_net(net, (SIDE, SIDE), (i, j), down, &mut out);
+                    assert_eq!(answer, Ok(()));
+                    total += sum(black_box(&out));
+                }
+                total
+            }),
+        ],
     }
 }
 
@@ -425,14 +437,13 @@ fn print_headings(unit: &str, others: &[&str]) {
 fn main() {
     let mut random = Random(1);
     let starting = random_net(&mut random, SIDE);
-    let subjects = [
-        surface_point(&starting, &mut random),
-        bezier_net(&starting, &mut random),
-    ];
+    let points = surface_point(&starting, &mut random);
+    let nets = bezier_net(&starting, &mut random);
+    print_headings("ns per call", &["steps", "formula"]);
+    points.measure();
+    println!();
     print_headings("ns per call", &["plain"]);
-    for subject in subjects {
-        subject.measure();
-    }
+    nets.measure();
     println!();
     print_headings("ms per net", &["table", "kinds", "copy"]);
     let net = noisy(&refine(&starting), &mut random);

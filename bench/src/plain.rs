@@ -164,9 +164,33 @@ pub fn bezier_net(
 #[inline(never)]
 pub fn surface_point(
     net: &[i32],
+    size: (usize, usize),
+    place: (usize, usize),
+    out: &mut [i32],
+) -> Result<(), Refusal> {
+    point_with(net, size, place, out, by_formula)
+}
+
+/// The same by de Casteljau's steps.
+#[inline(never)]
+pub fn surface_point_by_steps(
+    net: &[i32],
+    size: (usize, usize),
+    place: (usize, usize),
+    out: &mut [i32],
+) -> Result<(), Refusal> {
+    point_with(net, size, place, out, by_steps)
+}
+
+/// The point whose value, times 36 times 1,024 squared, `evaluate` gives in one coordinate: from
+/// the numbers A, B, G of the place and 36 times the Bézier points s, u, v, r, m, z.
+#[inline(always)]
+fn point_with(
+    net: &[i32],
     (w, h): (usize, usize),
     (p, q): (usize, usize),
     out: &mut [i32],
+    evaluate: impl Fn([i64; 3], [i64; 6]) -> i64,
 ) -> Result<(), Refusal> {
     check_size(w, h)?;
     if p > EDGE * (w - 1) || q > EDGE * (h - 1) {
@@ -185,7 +209,7 @@ pub fn surface_point(
     // From here on p, q, t are the corners P, Q, T.
     let (p, q, t) = descending(shares);
     let [a, b, d] = [p, q, t].map(|corner| shares[corner] as i64);
-    let (a, b, g) = (a - b, 2 * (b - d), 3 * d);
+    let place = [a - b, 2 * (b - d), 3 * d];
     let (first, second) = (&corners[p], &corners[q]);
     let (u, u_back) = if q == (p + 1) % 3 {
         (first.u_ahead(), second.u_behind())
@@ -198,15 +222,22 @@ pub fn surface_point(
         let r = (u[x] + u_back[x]) / 2;
         let m = (v[x] + v_second[x]) / 2;
         let z = (v[x] + v_second[x] + v_third[x]) / 3;
-        let sum = a * a * s[x]
-            + 2 * a * b * u[x]
-            + 2 * a * g * v[x]
-            + b * b * r
-            + 2 * b * g * m
-            + g * g * z;
+        let sum = evaluate(place, [s[x], u[x], v[x], r, m, z]);
         out[x] = rounded(sum, 36 * (EDGE * EDGE) as i64) as i32;
     }
     Ok(())
+}
+
+/// The formula as it is written.
+fn by_formula([a, b, g]: [i64; 3], [s, u, v, r, m, z]: [i64; 6]) -> i64 {
+    a * a * s + 2 * a * b * u + 2 * a * g * v + b * b * r + 2 * b * g * m + g * g * z
+}
+
+/// De Casteljau's averages.
+fn by_steps([a, b, g]: [i64; 3], [s, u, v, r, m, z]: [i64; 6]) -> i64 {
+    let average = |x, y, z| a * x + b * y + g * z;
+    let (first, second, third) = (average(s, u, v), average(u, r, m), average(v, m, z));
+    average(first, second, third)
 }
 
 /// The corners by falling share, equals in corner order.

@@ -47,7 +47,7 @@ pub(crate) fn sum(points: &[Point]) -> Point {
     total
 }
 
-fn scaled(point: Point, factor: Rational) -> Point {
+pub(crate) fn scaled(point: Point, factor: Rational) -> Point {
     point.map(|x| x * factor)
 }
 
@@ -246,6 +246,20 @@ impl Corner {
     }
 }
 
+/// The corners P, Q, T in the order of their shares.
+pub fn order(shares: [i128; 3]) -> [usize; 3] {
+    // The sort is stable, so equal shares stay in corner order.
+    let mut order = [0, 1, 2];
+    order.sort_by(|&x, &y| shares[y].cmp(&shares[x]));
+    order
+}
+
+/// A, B and G.
+pub(crate) fn gaps(shares: [i128; 3]) -> [i128; 3] {
+    let [a, b, d] = order(shares).map(|corner| shares[corner]);
+    [a - b, 2 * (b - d), 3 * d]
+}
+
 /// The Bézier ordinates of one triangle.
 pub struct Patch {
     corners: [Corner; 3],
@@ -259,27 +273,27 @@ impl Patch {
         }
     }
 
-    fn s(&self, a: usize) -> Point {
+    pub(crate) fn s(&self, a: usize) -> Point {
         self.corners[a].s()
     }
 
-    fn u(&self, a: usize, b: usize) -> Point {
+    pub(crate) fn u(&self, a: usize, b: usize) -> Point {
         self.corners[a].u(self.corners[b].at)
     }
 
-    fn v(&self, a: usize) -> Point {
+    pub(crate) fn v(&self, a: usize) -> Point {
         self.corners[a].v()
     }
 
-    fn r(&self, a: usize, b: usize) -> Point {
+    pub(crate) fn r(&self, a: usize, b: usize) -> Point {
         over(sum(&[self.u(a, b), self.u(b, a)]), 2)
     }
 
-    fn m(&self, a: usize, b: usize) -> Point {
+    pub(crate) fn m(&self, a: usize, b: usize) -> Point {
         over(sum(&[self.v(a), self.v(b)]), 2)
     }
 
-    fn z(&self) -> Point {
+    pub(crate) fn z(&self) -> Point {
         over(sum(&[self.v(0), self.v(1), self.v(2)]), 3)
     }
 
@@ -311,12 +325,8 @@ impl Patch {
     /// The exact value for the given shares at edge count `edge`.
     pub fn exact(&self, shares: [i128; 3], edge: i128) -> Point {
         assert_eq!(shares.iter().sum::<i128>(), edge);
-        // The sort is stable, so equal shares stay in corner order.
-        let mut order = [0, 1, 2];
-        order.sort_by(|&x, &y| shares[y].cmp(&shares[x]));
-        let [p, q, t] = order;
-        let (a, b, d) = (shares[p], shares[q], shares[t]);
-        let (a, b, g) = (a - b, 2 * (b - d), 3 * d);
+        let [p, q, _] = order(shares);
+        let [a, b, g] = gaps(shares);
         let total = sum(&[
             times(a * a, self.s(p)),
             times(2 * a * b, self.u(p, q)),

@@ -159,21 +159,6 @@ sum-distance {e} (w ∷ ws) h (Forall₂·cons {a = v} {b = u} {l₁ = vs} {l₂
       ap (λ (n : ℕ). e * n) (total-size w ws h),
     )
 
--- a bound for the size of the sum, from bounds for weights and values
-pub sum-size : (m n : ℕ) (ws vs : List ℤ) → Within m ws → Within n vs → natAbs (weightedSum ws vs) ≤ length ws * (m * n)
-unfolding weightedSum
-sum-size m n [] vs h k = zero-le
-sum-size m n (w ∷ ws) [] h k = zero-le
-sum-size m n (w ∷ ws) (v ∷ vs) h k =
-    omega (
-      arith,
-      size-sum (w *ℤ v) (weightedSum ws vs),
-      size-product w v,
-      mul-le-mul (h .0) (k .0),
-      sum-size m n ws vs
-          (h .1) (k .1),
-    )
-
 -- each number is at most as large as the sizes of all, added up
 pub sizes-within : (n : ℕ) (ws : List ℤ) → sizes ws ≤ n → Within n ws
 sizes-within n [] h = tt

@@ -1,5 +1,5 @@
 // Exact whole-number arithmetic: rounding of a quotient, weighted sums, and a list laid over the front of another.
-// The kernel's signed arithmetic is in `rounding` and `sums`.
+// Signed arithmetic of the kernel is in `rounding` and `sums`, and in the steps of `de_casteljau`.
 mod filling;
 mod rounding;
 mod sums;
@@ -8,7 +8,4 @@ pub use filling::copy_over;
 pub use rounding::round_quotient;
 pub use sums::weighted_mean3;
 pub use sums::weighted_mean6;
-pub use sums::weighted_mean9;
-pub use sums::weighted_sum3;
-pub use sums::weighted_sum6;
 pub use sums::weighted_sum9;

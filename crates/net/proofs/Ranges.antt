@@ -1,6 +1,6 @@
 -- Ranges: the code's two comparisons are the definition's one of the size, and what a list in range gives.
 use mathlib.Core.Path.{_≡_, refl, sym, ap, _∙_}
-use mathlib.Core.Bool.{Bool, true, false, _||_}
+use mathlib.Core.Bool.{Bool, true, false, _||_, or-false}
 use mathlib.Core.List.{List, [], _∷_, _++_, append-assoc}
 use Prim.Native.Nat.{ℕ, zero, suc, _+_, _-_, _≤_, _<_, suc-le-suc}
 use native.Mathlib.Nat.{le-of-suc-le-suc, not-suc-le-zero}
@@ -10,7 +10,7 @@ use native.Mathlib.Omega.{arith}
 use lib.Dec.{ltb→lt, leb→le}
 use lib.IntN.{ℤ, pos, negsuc, natAbs}
 use lib.ListN.{length, getD, take, drop}
-use lib.Seq.{drop-cons, take-add}
+use lib.Seq.{take-suc, take-add}
 use lib.Signed.{_≤ℤ_, _<ℤ_, ltZ}
 use borrow.Author.Tests.{lt-ltb, le-ltb, ltb-false}
 use Rattle.exact.specs.Filling.{runs}
@@ -30,11 +30,6 @@ outside-above n (negsuc a) h = sym (le-ltb _ _ (suc-le-suc (leb→le a n (h .le)
 -- ---- lists, for any range
 
 module _ (limit : ℕ) where
-  -- the numbers from place i on: the one at i, and those after it
-  pub any-from : (l : List ℤ) (i : ℕ) → i < length l →
-      anyOutside limit (drop i l) ≡ (outside limit (getD l i (pos 0)) || anyOutside limit (drop (i + 1) l))
-  any-from l i h = simp unary-clauses (ap (anyOutside limit) (drop-cons l i (pos 0) h))
-
   -- in a list in range, each number is
   pub in-range : (l : List ℤ) → anyOutside limit l ≡ false → (i : ℕ) → i < length l → natAbs (getD l i (pos 0)) ≤ limit
   in-range [] e i h = absurd (not-suc-le-zero h)
@@ -91,6 +86,14 @@ module _ (limit : ℕ) where
   pub any-front : (l : List ℤ) (a b : ℕ) →
       anyOutside limit (take (a + b) l) ≡ (anyOutside limit (take a l) || anyOutside limit (take b (drop a l)))
   any-front l a b = ap (anyOutside limit) (take-add a b l) ∙ any-append (take a l) (take b (drop a l))
+
+  -- and one number more
+  pub any-next : (l : List ℤ) (i : ℕ) → i < length l →
+      anyOutside limit (take (i + 1) l) ≡ (anyOutside limit (take i l) || outside limit (getD l i (pos 0)))
+  any-next l i h =
+      let z = getD l i (pos 0) in
+      simp unary-clauses (ap (anyOutside limit) (take-suc l i (pos 0) h)) ∙ any-append (take i l) (z ∷ [])
+      ∙ ap (λ (t : Bool). anyOutside limit (take i l) || t) (or-false (outside limit z))
 
   pub any-longer : (l : List ℤ) (a b : ℕ) → a ≤ b → anyOutside limit (take a l) ≡ true →
       true ≡ anyOutside limit (take b l)

@@ -53,19 +53,19 @@ pub fn number_beyond(z: i32) -> bool
     if z < -16777216 { true } else { 16777216 < z }
 }
 
-// Whether one of the numbers is.
+// Whether one of the numbers is. No early return, so that the loop over a vertex's nine numbers becomes straight code
+// without branches.
 pub fn any_beyond(numbers: &[i32]) -> bool
     ensures { λ r. ⌜ r ≡ anyBeyond (now (numbers .entry)) ⌝ }
 {
+    let mut bad = false;
     let mut i = 0;
     while i < numbers.len() {
         let z = numbers[i];
-        if number_beyond(z) {
-            return true;
-        }
+        bad = bad | number_beyond(z);
         i += 1;
     }
-    false
+    bad
 }
 
 // Whether one of the numbers of a control point is.

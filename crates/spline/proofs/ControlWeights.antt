@@ -13,18 +13,16 @@ use lib.Signed.{_≤ℤ_}
 use Rattle.exact.specs.WeightedSum.{weightedSum, total}
 use Rattle.exact.proofs.Parts.{integers}
 use Rattle.exact.proofs.Linear.{expression-parts}
-use Rattle.exact.proofs.Expressions.{Expr, var, lit, _⊕_, _⊖_, _⊗_, value, identity, identities}
+use Rattle.exact.proofs.Expressions.{Expr, var, lit, _⊕_, _⊖_, _⊗_, value, identity}
 use Rattle.exact.proofs.WeightedSumLaws.{NotNegative}
 use Rattle.net.specs.Net.{Index, one, two, three, rank, next, previous, same}
-use Rattle.places.specs.Places.{Order, o123, o132, o213, o231, o312, o321, cornerP, cornerQ, cornerT, gapA, gapB, gapG}
+use Rattle.places.specs.Places.{Order, o123, o132, o213, o231, o312, o321, cornerP, cornerQ, cornerT}
 use Rattle.places.specs.Located.{aheadOf}
 use Rattle.triangles.specs.BezierPoints.{Controls, controlList, indexK, indexM}
-use Rattle.triangles.proofs.CornerForm.{inForm, summed}
-use Rattle.spline.specs.Spline.{valueIn}
-use Rattle.spline.specs.Parts.{parts, partRows}
+use Rattle.triangles.proofs.CornerForm.{inForm, summed, s, u, v, r, m, z}
+use Rattle.spline.specs.Spline.{quadratic, valueIn}
 use Rattle.spline.specs.Shares.{square, weightK, weightN, weightM, weightOf, controlWeights, Descending}
 use Rattle.spline.specs.Promises.{WeightNotNegative, NoShareNoWeight}
-use Rattle.spline.proofs.Parts.{parts-value}
 
 -- ---- a sum over the corners in any order is the sum by corner
 
@@ -106,22 +104,51 @@ inGaps false =
     ++ ofCornerE (squareE (var 1 ⊕ var 2)) (lit (pos 0)) (squareE (var 1))
     ++ ofCornerE (squareE (var 2)) (lit (pos 0)) (lit (pos 0))
 
--- document 01's parts, with A = a - b, B = 2(b - d), G = 3d
-abbrev squaresE : List Expr
-squaresE =
+-- document 01's formula, with A = a - b, B = 2(b - d), G = 3d; variables 3 to 11 are the control values
+abbrev quadraticE : Bool → Index → Index → Expr
+quadraticE down P Q =
     (let A = var 0 in
     let B = lit (pos 2) ⊗ var 1 in
     let G = lit (pos 3) ⊗ var 2 in
-    (A ⊗ A) ∷ (lit (pos 2) ⊗ (A ⊗ B)) ∷ (lit (pos 2) ⊗ (A ⊗ G)) ∷ (B ⊗ B) ∷ (lit (pos 2) ⊗ (B ⊗ G)) ∷ (G ⊗ G) ∷ [])
+    let c = nine 3 in
+    A ⊗ A ⊗ s c P
+    ⊕ lit (pos 2) ⊗ (A ⊗ B) ⊗ u c down P Q
+    ⊕ lit (pos 2) ⊗ (A ⊗ G) ⊗ v c down P
+    ⊕ B ⊗ B ⊗ r c down P Q
+    ⊕ lit (pos 2) ⊗ (B ⊗ G) ⊗ m c down P Q
+    ⊕ G ⊗ G ⊗ z c down)
 
-abbrev partsE : Bool → List Expr
-partsE ahead = map (λ (row : List ℤ). summed (map lit row) squaresE) (partRows ahead)
+abbrev gapsE : Bool → Order → Expr
+gapsE down o = summed (inGaps (aheadOf o)) (inForm down (nine 3) o)
 
-gaps : (ahead : Bool) (x y g : ℕ) →
-    map (value (pos x ∷ pos y ∷ pos g ∷ [])) (inGaps ahead) ≡ parts ahead x (2 * y) (3 * g)
+gaps-value : (down : Bool) (c : Controls) (o : Order) (x y g : ℕ) →
+    quadratic down c (cornerP o) (cornerQ o) x (2 * y) (3 * g)
+    ≡ weightedSum (map (value (pos x ∷ pos y ∷ pos g ∷ [])) (inGaps (aheadOf o))) (inForm down c o)
 unfolding weightedSum
-gaps true x y g = identities (inGaps true) (partsE true) (pos x ∷ pos y ∷ pos g ∷ []) refl
-gaps false x y g = identities (inGaps false) (partsE false) (pos x ∷ pos y ∷ pos g ∷ []) refl
+gaps-value false c o123 x y g =
+    identity (quadraticE false (cornerP o123) (cornerQ o123)) (gapsE false o123) (pos x ∷ pos y ∷ pos g ∷ controlList c) refl
+gaps-value false c o132 x y g =
+    identity (quadraticE false (cornerP o132) (cornerQ o132)) (gapsE false o132) (pos x ∷ pos y ∷ pos g ∷ controlList c) refl
+gaps-value false c o213 x y g =
+    identity (quadraticE false (cornerP o213) (cornerQ o213)) (gapsE false o213) (pos x ∷ pos y ∷ pos g ∷ controlList c) refl
+gaps-value false c o231 x y g =
+    identity (quadraticE false (cornerP o231) (cornerQ o231)) (gapsE false o231) (pos x ∷ pos y ∷ pos g ∷ controlList c) refl
+gaps-value false c o312 x y g =
+    identity (quadraticE false (cornerP o312) (cornerQ o312)) (gapsE false o312) (pos x ∷ pos y ∷ pos g ∷ controlList c) refl
+gaps-value false c o321 x y g =
+    identity (quadraticE false (cornerP o321) (cornerQ o321)) (gapsE false o321) (pos x ∷ pos y ∷ pos g ∷ controlList c) refl
+gaps-value true c o123 x y g =
+    identity (quadraticE true (cornerP o123) (cornerQ o123)) (gapsE true o123) (pos x ∷ pos y ∷ pos g ∷ controlList c) refl
+gaps-value true c o132 x y g =
+    identity (quadraticE true (cornerP o132) (cornerQ o132)) (gapsE true o132) (pos x ∷ pos y ∷ pos g ∷ controlList c) refl
+gaps-value true c o213 x y g =
+    identity (quadraticE true (cornerP o213) (cornerQ o213)) (gapsE true o213) (pos x ∷ pos y ∷ pos g ∷ controlList c) refl
+gaps-value true c o231 x y g =
+    identity (quadraticE true (cornerP o231) (cornerQ o231)) (gapsE true o231) (pos x ∷ pos y ∷ pos g ∷ controlList c) refl
+gaps-value true c o312 x y g =
+    identity (quadraticE true (cornerP o312) (cornerQ o312)) (gapsE true o312) (pos x ∷ pos y ∷ pos g ∷ controlList c) refl
+gaps-value true c o321 x y g =
+    identity (quadraticE true (cornerP o321) (cornerQ o321)) (gapsE true o321) (pos x ∷ pos y ∷ pos g ∷ controlList c) refl
 
 in-gaps : (ahead : Bool) (a b d : ℕ) → b ≤ a → d ≤ b →
     ofShares ahead a b d ≡ map (value (pos (a - b) ∷ pos (b - d) ∷ pos d ∷ [])) (inGaps ahead)
@@ -154,12 +181,11 @@ in-gaps ahead a b d h k = go ahead
 pub value-by-weights : (down : Bool) (c : Controls) (o : Order) (a : Index → ℕ) → Descending a o →
     valueIn down c o a ≡ weightedSum (controlWeights down a) (controlList c)
 value-by-weights down c o a h =
-    sym (parts-value down c o (gapA o a) (gapB o a) (gapG o a))
+    gaps-value down c o (a (cornerP o) - a (cornerQ o)) (a (cornerQ o) - a (cornerT o)) (a (cornerT o))
     ∙ ap (λ (ws : List ℤ). weightedSum ws (inForm down c o))
     (sym
     (weights-in-order down o a
-    ∙ in-gaps (aheadOf o) (a (cornerP o)) (a (cornerQ o)) (a (cornerT o)) (h .0) (h .1)
-    ∙ gaps (aheadOf o) (a (cornerP o) - a (cornerQ o)) (a (cornerQ o) - a (cornerT o)) (a (cornerT o))))
+    ∙ in-gaps (aheadOf o) (a (cornerP o)) (a (cornerQ o)) (a (cornerT o)) (h .0) (h .1)))
     ∙ reordered down o (weightOf down a) c
 
 -- ---- the weights sum to 36·D²

@@ -1,5 +1,4 @@
--- The laws of the exact spline: parts, weights, and the same value in every triangle.
-pub mod Parts
+-- The laws of the exact spline: weights, and the same value in every triangle.
 pub mod GridSums
 pub mod Located
 pub mod ControlWeights

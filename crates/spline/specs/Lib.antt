@@ -1,5 +1,4 @@
 -- The definitions of the exact spline, of shares and of weights, and the statements about them.
 pub mod Spline
-pub mod Parts
 pub mod Shares
 pub mod Promises

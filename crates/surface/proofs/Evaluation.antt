@@ -1,88 +1,69 @@
--- The evaluation by parts: the bounds that keep the point an i32, and what the code reads.
-use mathlib.Core.Path.{_≡_, refl, ap, sym, _∙_}
-use mathlib.Core.Bool.{Bool, true, false, _&&_}
-use mathlib.Core.List.{List, [], _∷_, map}
-use Prim.Native.Nat.{ℕ, _+_, _*_, _≤_, _<_, _^_}
-use native.Mathlib.Nat.{mul-le-mul}
-use native.Mathlib.Omega.{arith}
-use lib.Dec.{T, leb, leb→le, lit<}
-use lib.IntN.{ℤ, pos, natAbs}
-use lib.ListN.{length}
-use lib.Signed.{mag}
-use mir.Facts.{and-yes}
-use mir.Syntax.{w64}
-use mir.Val.{toZ, ofZ}
+-- The evaluation by steps: the last average is the exact value, and the bounds that keep the point an i32.
+use mathlib.Core.Path.{_≡_, _∙_}
+use mathlib.Core.Bool.{Bool}
+use mathlib.Core.List.{List, []}
+use Prim.Native.Nat.{ℕ, _+_, _*_, _≤_}
+use lib.Dec.{lit<}
+use lib.IntN.{ℤ, pos, natAbs, _+ℤ_, _*ℤ_}
+use lib.ListN.{getD}
 use Rattle.exact.specs.Rounding.{rounded}
-use Rattle.exact.specs.WeightedSum.{weightedSum, sizes, Summed, Within}
-use Rattle.exact.proofs.Expressions.{var, lit, _⊕_, _⊗_, identity}
-use Rattle.exact.proofs.SignedCode.{reads-as}
-use Rattle.exact.proofs.WeightedSumLaws.{weightedSum-sym, sum-size, sum-sizes, sumFrom, sum-expression}
+use Rattle.exact.specs.WeightedSum.{Within}
 use Rattle.exact.proofs.RoundingLaws.{rounded-size}
-use Rattle.triangles.proofs.CornerForm.{s, z}
-use Rattle.spline.specs.Parts.{coefficients, partRows, parts}
+use Rattle.triangles.specs.Corners.{valuesIn}
+use Rattle.de_casteljau.specs.declared.points.Corner.{Corner}
+use Rattle.de_casteljau.specs.Ordinates.{valuesOf, ordinates}
+use Rattle.de_casteljau.specs.Averages.{lastAverage}
+use Rattle.de_casteljau.specs.Promises.{ordinatesIn}
+use Rattle.de_casteljau.proofs.SmallTriangles.{six-are-points, ordinates-within}
+use Rattle.de_casteljau.proofs.Averaging.{last-expanded, last-size}
+use Rattle.surface.specs.Evaluation.{cornerValues}
+use Rattle.surface.specs.Promises.{LastIsExact, LastIsSpline}
+use Rattle.spline.specs.Spline.{spline}
+use Rattle.places.specs.Places.{gapA, gapB, gapG, chosen, share, orderOf}
+use Rattle.triangles.specs.BezierPoints.{controlsOf}
 
--- ---- the parts are small
+-- ---- the last average is the exact value
 
--- the squares of three gaps add up to the square of their sum
-squares-sum : (A B G : ℕ) → pos (sizes (coefficients A B G)) ≡ pos ((A + B + G) * (A + B + G))
-squares-sum A B G =
-    identity
-    (var 0 ⊗ var 0
-    ⊕ (lit (pos 2) ⊗ (var 0 ⊗ var 1)
-    ⊕ (lit (pos 2) ⊗ (var 0 ⊗ var 2) ⊕ (var 1 ⊗ var 1 ⊕ (lit
-    (pos 2) ⊗ (var 1 ⊗ var 2) ⊕ (var 2 ⊗ var 2 ⊕ lit (pos 0)))))))
-    ((var 0 ⊕ var 1 ⊕ var 2) ⊗ (var 0 ⊕ var 1 ⊕ var 2))
-    (pos A ∷ pos B ∷ pos G ∷ [])
-    refl
+pub last-is-exact : LastIsExact
+last-is-exact down c o A B G =
+    last-expanded A B G (ordinatesIn down c o)
+    ∙ (λ t. let six = six-are-points down c o t in
+    pos (A * A) *ℤ getD six 0 (pos 0)
+    +ℤ pos (2 * (A * B)) *ℤ getD six 1 (pos 0)
+    +ℤ pos (2 * (A * G)) *ℤ getD six 2 (pos 0)
+    +ℤ pos (B * B) *ℤ getD six 3 (pos 0)
+    +ℤ pos (2 * (B * G)) *ℤ getD six 4 (pos 0)
+    +ℤ pos (G * G) *ℤ getD six 5 (pos 0))
 
--- no weight of the tables is above 24
-abbrev small : List ℤ → Bool
-small [] = true
-small (x ∷ xs) = leb (natAbs x) 24 && small xs
+pub last-is-spline : LastIsSpline
+unfolding spline
+last-is-spline F w h p q =
+    let t = chosen 1024 w h p q in
+    let a = share 1024 w h p q in
+    let o = orderOf a in
+    last-is-exact (t .down) (controlsOf F t) o (gapA o a) (gapB o a) (gapG o a)
 
-small-within : (row : List ℤ) → T (small row) → Within 24 row
-small-within [] h = tt
-small-within (x ∷ xs) h =
-    let h₂ = and-yes (leb (natAbs x) 24) (small xs) h in
-    (leb→le (natAbs x) 24 (h₂ .0), small-within xs (h₂ .1))
+-- ---- sizes
 
-abbrev allSmall : List (List ℤ) → Bool
-allSmall [] = true
-allSmall (row ∷ rows) = small row && allSmall rows
-
-rows-within : (A B G : ℕ) → A + B + G ≤ 1024 → (rows : List (List ℤ)) → T (allSmall rows) →
-    Within 25165824 (map (λ (row : List ℤ). weightedSum row (coefficients A B G)) rows)
-rows-within A B G k [] h = tt
-rows-within A B G k (row ∷ rows) h =
-    let h₂ = and-yes (small row) (allSmall rows) h in
-    let ks = coefficients A B G in (
-      omega (
-        arith,
-        ap natAbs (weightedSum-sym row ks),
-        sum-sizes 24 ks row (small-within row (h₂ .0)),
-        ap natAbs (squares-sum A B G),
-        mul-le-mul k k,
-      ),
-      rows-within A B G k rows (h₂ .1),
+-- the values of the three corners, out of the nine
+pub corners-within : (n : ℕ) (c : List (List (List ℤ))) (x : ℕ) → Within n (valuesIn c x) →
+    Within n (valuesOf (cornerValues (getD c 0 []) x))
+    × Within n (valuesOf (cornerValues (getD c 1 []) x))
+    × Within n (valuesOf (cornerValues (getD c 2 []) x))
+corners-within n c x h =
+    let q = h .1 .1 .1 in
+    let t = q .1 .1 .1 in (
+      (h .0, (h .1 .0, (h .1 .1 .0, tt))),
+      (q .0, (q .1 .0, (q .1 .1 .0, tt))),
+      (t .0, (t .1 .0, (t .1 .1 .0, tt))),
     )
 
-pub parts-within : (ahead : Bool) (A B G : ℕ) → A + B + G ≤ 1024 → Within 25165824 (parts ahead A B G)
-parts-within true A B G k = rows-within A B G k (partRows true) tt
-parts-within false A B G k = rows-within A B G k (partRows false) tt
+-- the last average of values of the net range
+pub last-small : (ahead : Bool) (A B G : ℕ) (p q t : Corner) → A + B + G ≡ 1024 →
+    Within 16777216 (valuesOf p) → Within 16777216 (valuesOf q) → Within 16777216 (valuesOf t) →
+    natAbs (lastAverage A B G (ordinates ahead p q t)) ≤ 37748736 * 16777216
+last-small ahead A B G p q t e hp hq ht =
+    last-size A B G (36 * 16777216) (ordinates ahead p q t) e (ordinates-within 16777216 ahead p q t hp hq ht)
 
--- the point is small
-pub point-small : (weights values : List ℤ) → length weights ≡ 9 → Within 25165824 weights → Within 16777216 values →
-    natAbs (rounded (weightedSum weights values) 37748736) ≤ 100663296
-point-small weights values e h k =
-    rounded-size (weightedSum weights values) 37748736 100663296 (lit< tt)
-    (omega (arith, sum-size 25165824 16777216 weights values h k, e))
-
--- ---- what the code reads: a part out of its bits, and a part that is 0
-
-pub part : (z : ℤ) {row k : List ℤ} → mag z < 2 ^ 63 → Summed row k z → toZ w64 (ofZ w64 z) ≡ weightedSum row k
-part z g s = reads-as w64 z g (s .sum)
-
-pub none : (k : List ℤ) → length k ≡ 6 → pos 0 ≡ weightedSum (pos 0 ∷ pos 0 ∷ pos 0 ∷ pos 0 ∷ pos 0 ∷ pos 0 ∷ []) k
-none k e =
-    sym (sum-expression (pos 0 ∷ pos 0 ∷ pos 0 ∷ pos 0 ∷ pos 0 ∷ pos 0 ∷ []) k 0 (omega (arith, e))
-    ∙ identity (sumFrom (pos 0 ∷ pos 0 ∷ pos 0 ∷ pos 0 ∷ pos 0 ∷ pos 0 ∷ []) 0) (lit (pos 0)) k refl)
+pub point-small : (last : ℤ) → natAbs last ≤ 37748736 * 16777216 → natAbs (rounded last 37748736) ≤ 16777216
+point-small last h = rounded-size last 37748736 16777216 (lit< tt) h

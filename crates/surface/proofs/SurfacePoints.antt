@@ -5,10 +5,11 @@ use mathlib.Core.List.{List, [], _∷_, map}
 use Prim.Native.Nat.{ℕ, _+_, _-_, _*_, _≤_, _<_}
 use native.Mathlib.Omega.{arith}
 use lib.Dec.{ltb, lit<}
-use lib.IntN.{ℤ}
+use lib.IntN.{ℤ, pos}
+use lib.ListN.{getD}
 use borrow.Author.Tests.{ltb-true, ltb-false}
 use Rattle.exact.specs.Rounding.{rounded}
-use Rattle.exact.specs.WeightedSum.{weightedSum, Within}
+use Rattle.exact.specs.WeightedSum.{Within}
 use Rattle.net.specs.Refusals.{badSize, shortNet, accepted}
 use Rattle.net.specs.Net.{Index, one, two, three, field}
 use Rattle.net.proofs.Faults.{cond-false, fault-none, fault-before, accepted-answer, refused-answer}
@@ -17,18 +18,23 @@ use Rattle.places.specs.Refusals.{noPlace}
 use Rattle.places.specs.Located.{placeRefusal, shares, InOrder}
 use Rattle.places.proofs.Cells.{in-cells, cells-in-grid}
 use Rattle.places.proofs.Orders.{Sorted, in-order}
-use Rattle.triangles.specs.Corners.{InNet, cornerControls, valuesIn, reorderedControls, arranged}
+use Rattle.triangles.specs.Corners.{InNet, cornerControls, valuesIn, reorderedControls}
 use Rattle.triangles.specs.BezierPoints.{controlsOf}
 use Rattle.triangles.specs.Refusals.{triangleBeyond}
 use Rattle.triangles.proofs.Corners.{in-net, value-size}
-use Rattle.triangles.proofs.CornerForm.{inForm, form-values, loaded-form, form-within}
+use Rattle.triangles.proofs.CornerForm.{inForm, arranged, form-values, loaded-form, form-within}
 use Rattle.spline.specs.Spline.{spline}
-use Rattle.spline.specs.Parts.{parts}
-use Rattle.spline.proofs.Parts.{parts-value}
+use Rattle.de_casteljau.specs.declared.points.Corner.{Corner}
+use Rattle.de_casteljau.specs.declared.points.Ordinates.{Ordinates}
+use Rattle.de_casteljau.specs.Ordinates.{ordinates}
+use Rattle.de_casteljau.specs.Averages.{lastAverage}
 use Rattle.surface.specs.SurfacePoint.{coordinate, surfacePoint}
 use Rattle.surface.specs.Refusals.{pointRefusalWith}
 use Rattle.surface.specs.Answers.{pointAnswerWith, viewAnswerWith, viewPoint, millimetres}
 use Rattle.surface.specs.Evaluation.{evaluated, Evaluable}
+use Rattle.surface.specs.Promises.{GapsWhole}
+use Rattle.surface.proofs.Evaluation.{last-is-exact}
+use Rattle.surface.proofs.Accepted.{on-the-grid}
 
 pub in-net-place : (net : List ℤ) (w h p q : ℕ) → badSize w h ≡ false → noPlace 1024 w h p q ≡ false →
     shortNet net w h ≡ false →
@@ -67,6 +73,13 @@ prepared net w h p q ek ec i x =
     ∙ form-values (t .down) (orderOf (share 1024 w h p q)) (cornerControls net w t) x
     ∙ loaded-form net w t (t .down) (orderOf (share 1024 w h p q)) x
 
+-- the six points of nine values in a list
+abbrev cornerAt : List ℤ → ℕ → Corner
+cornerAt l i = record { k = getD l i (pos 0); n = getD l (i + 1) (pos 0); m = getD l (i + 2) (pos 0) }
+
+abbrev ordinatesAt : Bool → List ℤ → Ordinates
+ordinatesAt ahead l = ordinates ahead (cornerAt l 0) (cornerAt l 3) (cornerAt l 6)
+
 -- the evaluated point is the surface point
 pub evaluated-coordinate : (net : List ℤ)
     (w h p q x : ℕ) {down : Bool} {c : List (List (List ℤ))} {P Q T : ℕ} {ahead : Bool} {A B G : ℕ} →
@@ -79,9 +92,9 @@ evaluated-coordinate net w h p q x ek ec i =
     let s = share 1024 w h p q in
     let o = orderOf s in
     let values = prepared net w h p q ek ec i x in
-    (λ k. rounded (weightedSum (parts (i .direction k) (i .first k) (i .second k) (i .last k)) (values k)) 37748736)
+    (λ k. rounded (lastAverage (i .first k) (i .second k) (i .last k) (ordinatesAt (i .direction k) (values k))) 37748736)
     ∙ ap (λ (z : ℤ). rounded z 37748736)
-    (parts-value (t .down) (controlsOf (field net w x) t) o (gapA o s) (gapB o s) (gapG o s))
+    (last-is-exact (t .down) (controlsOf (field net w x) t) o (gapA o s) (gapB o s) (gapG o s))
 
 -- ---- answers
 
@@ -198,6 +211,9 @@ gaps-sum a =
     added : (x y z : ℕ) → y ≤ x → z ≤ y → (x - y) + 2 * (y - z) + 3 * z ≡ x + y + z
     added x y z a b = omega (arith, a, b)
 
+pub gaps-whole : GapsWhole
+gaps-whole w h p q e g = gaps-sum (share 1024 w h p q) ∙ shares-sum w h p q e (on-the-grid 1024 w h p q g)
+
 pub evaluable : (net : List ℤ) (w h p q : ℕ) → GoodPlace net w h p q →
     triangleBeyond net w (chosen 1024 w h p q) ≡ false →
     {down : Bool} {c : List (List (List ℤ))} {P Q T : ℕ} {ahead : Bool} {A B G : ℕ} →
@@ -208,13 +224,9 @@ evaluable net w h p q g b {down} {c} {P} {Q} {T} ek ec i =
     let t = chosen 1024 w h p q in
     let s = share 1024 w h p q in
     let lies = in-net-place net w h p q (g .size) (g .place) (g .long) in
-    let within : (x : ℕ) → x < 3 → Within 16777216 (valuesIn (arranged P Q T (reorderedControls down c)) x) =
-    λ x k. subst (Within 16777216) (sym (prepared net w h p q ek ec i x))
-    (form-within 16777216 (t .down) (controlsOf (field net w x) t) (orderOf s)
-    (value-size net w (t .column) (t .row) (t .down) lies b x k)) in
     record {
       gaps = omega (arith, i .first, i .second, i .last, gaps-sum s, shares-sum w h p q (g .size) (g .place));
-      within-0 = within 0 (lit< tt);
-      within-1 = within 1 (lit< tt);
-      within-2 = within 2 (lit< tt);
+      within = λ x k. subst (Within 16777216) (sym (prepared net w h p q ek ec i x))
+          (form-within 16777216 (t .down) (controlsOf (field net w x) t) (orderOf s)
+          (value-size net w (t .column) (t .row) (t .down) lies b x k));
     }

@@ -11,7 +11,7 @@ use Rattle.exact.proofs.Expressions.{Expr, lit, _⊕_, _⊗_}
 use Rattle.net.specs.Net.{Index, one, two, three, rank, entry, Triangle, field, isNext}
 use Rattle.places.specs.Places.{Order, o123, o132, o213, o231, o312, o321, cornerP, cornerQ, cornerT}
 use Rattle.triangles.specs.BezierPoints.{Controls, controlsOf, indexK, indexM, indexN}
-use Rattle.triangles.specs.Corners.{cornerControls, reorderedControls, arranged, valuesIn}
+use Rattle.triangles.specs.Corners.{cornerControls, reorderedControls, valuesIn}
 
 -- ---- the values
 
@@ -26,6 +26,14 @@ module _ {A : Type 0} where
       ∷ c (cornerT o) (indexK down (cornerT o)) ∷ c (cornerT o) (indexN down (cornerT o))
       ∷ c (cornerT o) (indexM down (cornerT o))
       ∷ []
+
+-- the control triangles of corners p, q and t; three that are these are so arranged
+abbrev pub arranged : ℕ → ℕ → ℕ → List (List (List ℤ)) → List (List (List ℤ))
+arranged p q t c = getD c p [] ∷ getD c q [] ∷ getD c t [] ∷ []
+
+pub arranged-corners : (c : List (List (List ℤ))) (p q t : ℕ) {x y z : List (List ℤ)} →
+    x ≡ getD c p [] → y ≡ getD c q [] → z ≡ getD c t [] → x ∷ y ∷ z ∷ [] ≡ arranged p q t c
+arranged-corners c p q t e f g = λ i. e i ∷ f i ∷ g i ∷ []
 
 -- what the reordered and arranged control triangles hold
 pub form-values : (down : Bool) (o : Order) (c : List (List (List ℤ))) (x : ℕ) →

@@ -33,7 +33,3 @@ abbrev pub reorderedControls : Bool → List (List (List ℤ)) → List (List (L
 reorderedControls down c =
     reorderedCorner down one (getD c 0 []) ∷ reorderedCorner down two (getD c 1 [])
     ∷ reorderedCorner down three (getD c 2 []) ∷ []
-
--- the corners in another order
-abbrev pub arranged : ℕ → ℕ → ℕ → List (List (List ℤ)) → List (List (List ℤ))
-arranged P Q T c = getD c P [] ∷ getD c Q [] ∷ getD c T [] ∷ []

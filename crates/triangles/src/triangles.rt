@@ -1,5 +1,6 @@
-// The control triangles of a triangle's three corners: their range, loading them, their order, and their nine values in
-// one coordinate. For `bezier` and `surface`, which have refused every triangle that is not in the net.
+// The control triangles of a triangle's three corners: their range, for `bezier` and `surface`, which have refused
+// every triangle that is not in the net; and for `bezier` loading all three, their order, and their nine values in one
+// coordinate.
 use net::load;
 use net::vertex_beyond;
 ghost use mathlib.Core.Path.{_≡_};
@@ -7,7 +8,7 @@ ghost use mathlib.Core.List.{[], _∷_};
 ghost use Prim.Native.Nat.{_+_, _≤_, _<_};
 ghost use lib.ListN.{length, getD};
 ghost use Rattle.net.specs.Net.{one, two, three, vertexAt, triangleAt, start, entry, stride};
-ghost use Rattle.triangles.specs.Corners.{InNet, cornerControls, valuesIn, reorderedControls, arranged};
+ghost use Rattle.triangles.specs.Corners.{InNet, cornerControls, valuesIn, reorderedControls};
 ghost use Rattle.triangles.specs.Refusals.{verticesBeyond, triangleBeyond};
 
 // Whether one of the numbers of three vertices is outside the net range.
@@ -107,12 +108,4 @@ pub fn reorder_controls(c: [[[i32; 3]; 3]; 3], down: bool) -> [[[i32; 3]; 3]; 3]
             pick(c[2], 2, 0, 1),
         ]
     }
-}
-
-// The corners in another order.
-pub fn arrange(c: [[[i32; 3]; 3]; 3], p: usize, q: usize, t: usize) -> [[[i32; 3]; 3]; 3]
-    requires { ⌜ (p < 3) × (q < 3) × (t < 3) ⌝ }
-    ensures { λ r. ⌜ r ≡ arranged p q t c ⌝ }
-{
-    [c[p], c[q], c[t]]
 }

@@ -1,18 +1,17 @@
 -- `details::ranges::first_beyond` meets its contract: of the numbers before i none is beyond the range.
 use mathlib.Core.Path.{_≡_, refl, sym, ap, _∙_}
-use mathlib.Core.Bool.{Bool, true, false, _||_}
+use mathlib.Core.Bool.{false}
 use mathlib.Core.List.{List}
-use Prim.Native.Nat.{ℕ, _+_, _-_, _≤_, _<_}
+use Prim.Native.Nat.{ℕ, _+_, _-_, _≤_}
 use native.Mathlib.Omega.{arith}
-use lib.ListN.{length, getD, take, drop}
-use lib.Seq.{drop-cons}
+use lib.ListN.{getD, take}
 use lib.IntN.{ℤ, pos}
 use mir.Syntax.{w32}
 use borrow.Author.Needs.{needs}
 use Rattle.exact.proofs.SignedCode.{reads-back}
 use Rattle.net.specs.Refusals.{outside, anyOutside}
 use Rattle.net.proofs.Faults.{or-no}
-use Rattle.net.proofs.Ranges.{any-front, any-longer}
+use Rattle.net.proofs.Ranges.{any-next, any-longer}
 use Rattle.details.specs.Refusals.{detailLimit}
 use Rattle.details.proofs.ranges.first_beyond.Statement.{statement}
 use Rattle.details.proofs.ranges.first_beyond.Tie as tie
@@ -35,19 +34,6 @@ shared-slice-copy-out-z c = search needs
 detail-beyond-requires : tie.Need-detail-beyond-requires Inv-loop μ-loop
 detail-beyond-requires c κs = search needs
 
--- past numbers in range, the next one decides
-any-next : (limit : ℕ) (l : List ℤ) (i : ℕ) → i < length l → anyOutside limit (take i l) ≡ false →
-    outside limit (getD l i (pos 0)) ≡ anyOutside limit (take (i + 1) l)
-any-next limit l i h e =
-    alone (outside limit (getD l i (pos 0)))
-    ∙ ap (λ (m : List ℤ). anyOutside limit (take 1 m)) (sym (drop-cons l i (pos 0) h))
-    ∙ or-no (anyOutside limit (take i l)) (anyOutside limit (take 1 (drop i l))) e refl
-    ∙ sym (any-front limit l i 1)
-  where
-    alone : (b : Bool) → b ≡ (b || false)
-    alone true = refl
-    alone false = refl
-
 -- what is known of the number at i is known of all up to it
 module _ (c : tie.After-detail-beyond Inv-loop μ-loop) where
   abbrev details : List ℤ
@@ -60,7 +46,9 @@ module _ (c : tie.After-detail-beyond Inv-loop μ-loop) where
   up-to =
       c .detail-beyond .ensures
       ∙ ap (outside detailLimit) (reads-back w32 (getD details i (pos 0)) (c .before .z .given))
-      ∙ any-next detailLimit details i (omega arith) (c .before .before .before .loop .inv .1)
+      ∙ or-no (anyOutside detailLimit (take i details)) (outside detailLimit (getD details i (pos 0)))
+      (c .before .before .before .loop .inv .1) refl
+      ∙ sym (any-next detailLimit details i (omega arith))
 
 returns : tie.Need-returns Inv-loop μ-loop
 returns c =

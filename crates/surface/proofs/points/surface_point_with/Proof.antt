@@ -1,6 +1,6 @@
 -- `surface::points::surface_point_with` meets its contract.
 use mathlib.Core.Bool.{Bool}
-use mathlib.Core.List.{List}
+use mathlib.Core.List.{List, [], _∷_}
 use mathlib.Core.Path.{_≡_, refl, sym, subst, _∙_, subst₂, ap}
 use Prim.Native.Nat.{ℕ, _≤_}
 use native.Mathlib.Omega.{arith}
@@ -11,8 +11,9 @@ use Rattle.net.proofs.Faults.{cond-true, cond-false}
 use Rattle.net.proofs.Places.{below-three}
 use Rattle.places.specs.Located.{InOrder}
 use Rattle.places.specs.Places.{chosen, share, orderOf, cornerP, cornerQ, cornerT}
-use Rattle.triangles.specs.Corners.{InNet, cornerControls, reorderedControls, arranged}
+use Rattle.triangles.specs.Corners.{InNet, cornerControls, reorderedControls}
 use Rattle.triangles.specs.Refusals.{triangleBeyond}
+use Rattle.triangles.proofs.CornerForm.{arranged, arranged-corners}
 use Rattle.surface.specs.Evaluation.{Evaluable, evaluated}
 use Rattle.surface.proofs.SurfacePoints.{GoodPlace, good-place, refused-place, room-refusal, range-refusal, refused-point, accepted-point, share-small, in-order-of, evaluable, evaluated-coordinate, in-net-place}
 use Rattle.surface.proofs.points.surface_point_with.Statement.{statement}
@@ -67,35 +68,34 @@ beyond c =
     c .triangle-beyond .ensures
     ∙ ap (triangleBeyond (net (at (c .before))) (w (at (c .before)))) (found-place (c .before))
 
-loaded : (c : tie.After-load-triangle) →
-    c .load-triangle .result
-    ≡ cornerControls (net (at (c .before .before .before))) (w (at (c .before .before .before)))
-    (place (c .before .before .before))
-loaded c =
-    let l = c .before .before .before in
-    c .load-triangle .ensures ∙ ap (cornerControls (net (at l)) (w (at l))) (found-place l)
+loaded : (c : tie.After-locate) → cornerControls (net (at c)) (w (at c)) (found c) ≡ cornerControls (net (at c)) (w (at c)) (place c)
+loaded c = ap (cornerControls (net (at c)) (w (at c))) (found-place c)
 
 abbrev shares-of : tie.Else1 → Index → ℕ
 shares-of e = share 1024 (w e) (h e) (p e) (q e)
 
 in-order : (c : tie.After-put-in-order) →
     (let o = c .put-in-order .result in
-    let s = shares-of (at (c .before .before .before .before)) in
+    let s = shares-of (at (c .before .before .before)) in
     InOrder (orderOf s) s (o .p) (o .q) (o .t) (o .ahead) (o .a) (o .b) (o .g))
 in-order c =
-    let l = c .before .before .before .before in
+    let l = c .before .before .before in
     let found = l .locate .ensures in
     in-order-of (shares-of (at l)) (found .share-1) (found .share-2) (found .share-3) (c .put-in-order .ensures)
 
--- the control triangles, reordered and arranged
-arranged-is : (c : tie.After-arrange) →
-    (let o = c .before .before .put-in-order .result in
-    c .arrange .result ≡ arranged (o .p) (o .q) (o .t)
-    (reorderedControls (c .before .before .before .before .before .before .locate .result .down)
-    (c .before .before .before .load-triangle .result)))
+-- the control triangles of P, Q and T are those of the triangle, reordered and arranged
+arranged-is : (c : tie.After-load-corner3) →
+    (let o = c .before .before .before .put-in-order .result in
+    let l = c .before .before .before .before .before .before in
+    c .before .before .load-corner .result ∷ c .before .load-corner2 .result ∷ c .load-corner3 .result ∷ []
+    ≡ arranged (o .p) (o .q) (o .t)
+    (reorderedControls (l .locate .result .down) (cornerControls (net (at l)) (w (at l)) (found l))))
 arranged-is c =
-    let o = c .before .before .put-in-order .result in
-    c .arrange .ensures ∙ ap (arranged (o .p) (o .q) (o .t)) (c .before .reorder-controls .ensures)
+    let o = c .before .before .before .put-in-order .result in
+    let l = c .before .before .before .before .before .before in
+    arranged-corners (reorderedControls (l .locate .result .down) (cornerControls (net (at l)) (w (at l)) (found l)))
+    (o .p) (o .q) (o .t)
+    (c .before .before .load-corner .ensures) (c .before .load-corner2 .ensures) (c .load-corner3 .ensures)
 
 place-refusal-requires : tie.Need-place-refusal-requires
 place-refusal-requires c κs = search needs
@@ -131,12 +131,9 @@ returns-3 c =
     (range-refusal (net e) (w e) (h e) (p e) (q e) (short e) (good e) (l .before .if2 .left)
     (cond-true _ 3 0 (sym (beyond (c .before)) ∙ c .if3 .taken))) (λ z. absurd (omega (arith, z)))
 
-load-triangle-requires : tie.Need-load-triangle-requires
-load-triangle-requires c κs = lies (c .before .before)
-
 put-in-order-requires : tie.Need-put-in-order-requires
 put-in-order-requires c κs =
-    let l = c .before .before .before in
+    let l = c .before .before in
     let e = at l in
     let small = share-small (w e) (h e) (p e) (q e) (good e .size) (good e .place) in (
       subst (λ (n : ℕ). n ≤ 1024) (sym (l .locate .ensures .share-1)) (small one),
@@ -144,44 +141,46 @@ put-in-order-requires c κs =
       subst (λ (n : ℕ). n ≤ 1024) (sym (l .locate .ensures .share-3)) (small three),
     )
 
-reorder-controls-requires : tie.Need-reorder-controls-requires
-reorder-controls-requires c κs = search needs
+-- P, Q and T are numbers of corners
+load-corner-requires : tie.Need-load-corner-requires
+load-corner-requires c κs =
+    let l = c .before .before .before in
+    (lies l, below-three (cornerP (orderOf (shares-of (at l)))) (in-order c .first-corner))
 
-arrange-requires : tie.Need-arrange-requires
-arrange-requires c κs =
-    let o = orderOf (shares-of (at (c .before .before .before .before .before))) in
-    let i = in-order (c .before) in (
-      below-three (cornerP o) (i .first-corner),
-      below-three (cornerQ o) (i .second-corner),
-      below-three (cornerT o)
-          (i .last-corner),
-    )
+load-corner-requires-2 : tie.Need-load-corner-requires-2
+load-corner-requires-2 c κs =
+    let l = c .before .before .before .before in
+    (lies l, below-three (cornerQ (orderOf (shares-of (at l)))) (in-order (c .before) .second-corner))
+
+load-corner-requires-3 : tie.Need-load-corner-requires-3
+load-corner-requires-3 c κs =
+    let l = c .before .before .before .before .before in
+    (lies l, below-three (cornerT (orderOf (shares-of (at l)))) (in-order (c .before .before) .last-corner))
 
 evaluate-requires : tie.Need-evaluate-requires
 evaluate-requires c κs =
-    let o = c .before .before in
-    let v = o .before in
-    let f = v .before in
+    let o = c .before .before .before in
+    let f = o .before in
     let l = f .before .before in
     let e = at l in
     subst (Evaluable _ _ _) (sym (arranged-is c))
-    (evaluable (net e) (w e) (h e) (p e) (q e) (good e) (sym (beyond (f .before)) ∙ f .if3 .left) (l .locate .ensures .kind) (loaded v) (in-order o))
+    (evaluable (net e) (w e) (h e) (p e) (q e) (good e) (sym (beyond (f .before)) ∙ f .if3 .left) (l .locate .ensures .kind) (loaded l) (in-order o))
 
 returns-4 : tie.Need-returns-4
 returns-4 c =
     let t = arranged-is (c .before) in
-    let o = c .before .before .before in
+    let o = c .before .before .before .before in
     let f = o .put-in-order .result in
     let v = o .before in
-    let l = v .before .before .before in
+    let l = v .before .before in
     let kind = l .locate .ensures .kind in
     let e = at l in
     accepted-point (net e) (w e) (h e) (p e) (q e) (short e)
     (range-refusal (net e) (w e) (h e) (p e) (q e) (short e) (good e) (l .before .if2 .left)
-    (cond-false _ 3 0 (sym (beyond (v .before .before)) ∙ v .before .if3 .left) refl))
-    (c .evaluate .ensures .0 ∙ ap (λ (l : List (List (List ℤ))). evaluated (f .ahead) (f .a) (f .b) (f .g) l 0) t ∙ evaluated-coordinate (net e) (w e) (h e) (p e) (q e) 0 kind (loaded v) (in-order o))
-    (c .evaluate .ensures .1 .0 ∙ ap (λ (l : List (List (List ℤ))). evaluated (f .ahead) (f .a) (f .b) (f .g) l 1) t ∙ evaluated-coordinate (net e) (w e) (h e) (p e) (q e) 1 kind (loaded v) (in-order o))
-    (c .evaluate .ensures .1 .1 ∙ ap (λ (l : List (List (List ℤ))). evaluated (f .ahead) (f .a) (f .b) (f .g) l 2) t ∙ evaluated-coordinate (net e) (w e) (h e) (p e) (q e) 2 kind (loaded v) (in-order o))
+    (cond-false _ 3 0 (sym (beyond (v .before)) ∙ v .if3 .left) refl))
+    (c .evaluate .ensures .0 ∙ ap (λ (l : List (List (List ℤ))). evaluated (f .ahead) (f .a) (f .b) (f .g) l 0) t ∙ evaluated-coordinate (net e) (w e) (h e) (p e) (q e) 0 kind (loaded l) (in-order o))
+    (c .evaluate .ensures .1 .0 ∙ ap (λ (l : List (List (List ℤ))). evaluated (f .ahead) (f .a) (f .b) (f .g) l 1) t ∙ evaluated-coordinate (net e) (w e) (h e) (p e) (q e) 1 kind (loaded l) (in-order o))
+    (c .evaluate .ensures .1 .1 ∙ ap (λ (l : List (List (List ℤ))). evaluated (f .ahead) (f .a) (f .b) (f .g) l 2) t ∙ evaluated-coordinate (net e) (w e) (h e) (p e) (q e) 2 kind (loaded l) (in-order o))
 
 pub surface-point-with-spec : {M : Type 1} → statement M
 surface-point-with-spec =
@@ -193,9 +192,9 @@ surface-point-with-spec =
     locate-requires
     triangle-beyond-requires
     returns-3
-    load-triangle-requires
     put-in-order-requires
-    reorder-controls-requires
-    arrange-requires
+    load-corner-requires
+    load-corner-requires-2
+    load-corner-requires-3
     evaluate-requires
     returns-4)
