@@ -4,6 +4,7 @@ use ups_tests::kernel::LentNet;
 use ups_tests::nets::{self, NUMBERS};
 use ups_tests::oracle::{self, Net, EDGE};
 use ups_tests::random::Random;
+use ups_tests::rational::Rational;
 
 fn check(lent: &LentNet, net: &Net, (p, q): (usize, usize)) {
     let size = (net.w, net.h);
@@ -100,6 +101,53 @@ fn long_narrow_nets() {
         let net = Net::new(&numbers, size.0, size.1);
         for place in nets::places(&mut random, size) {
             check(&lent, &net, place);
+        }
+    }
+}
+
+/// An exact value is so many of these parts of a unit: 36 times 1,024 squared over 12, since each
+/// of the nine factors is a multiple of 12.
+const PARTS: i128 = 3 * EDGE * EDGE;
+
+/// The inverse of an odd number that 3 does not divide: of PARTS, 3 times a power of 2, the order
+/// of every such number divides 2^18.
+fn inverse(number: i128) -> i128 {
+    let mut inverse = 1;
+    for _ in 1..1 << 18 {
+        inverse = inverse * number % PARTS;
+    }
+    inverse
+}
+
+/// One control value is set so that the exact value lies at a half and as near to it as it can: a
+/// rounding on the way, however slight, shows there.
+#[test]
+fn beside_halves() {
+    let mut random = Random::new(26);
+    let mut met = 0;
+    while met < 60 {
+        let mut numbers = nets::random_net(&mut random, (2, 2), nets::Numbers::Small);
+        let (p, q) = (random.below(1025), random.below(1025));
+        let n = random.below(numbers.len());
+        let mut value = |number: i32| {
+            numbers[n] = number;
+            let exact = Net::new(&numbers, 2, 2).exact(p as i128, q as i128, EDGE);
+            let parts = exact[n % 3] * Rational::whole(PARTS);
+            assert_eq!(parts.denominator(), 1);
+            parts.numerator()
+        };
+        let none = value(0);
+        let factor = value(1) - none;
+        if factor % 2 == 0 || factor % 3 == 0 {
+            continue;
+        }
+        met += 1;
+        let inverse = inverse(factor);
+        for offset in -3..=3 {
+            let rest = PARTS / 2 + offset - none;
+            let number = (rest % PARTS * inverse).rem_euclid(PARTS) - PARTS * (met % 2);
+            numbers[n] = i32::try_from(number).expect("in range");
+            check(&LentNet::new(&numbers), &Net::new(&numbers, 2, 2), (p, q));
         }
     }
 }

@@ -1,0 +1,42 @@
+//! The tests of the library, one program: it is linked once, and its tests share the machine's
+//! cores from the first to the last.
+
+mod beyond;
+mod bezier;
+mod cleaning;
+mod de_casteljau;
+mod declarations;
+mod demand_three;
+mod door_corner;
+mod doors;
+mod listing;
+mod merging;
+mod multiresolution_oracle;
+mod multiresolution_order;
+mod multiresolution_refusals;
+mod mutated_files;
+mod netfile;
+mod null_slices;
+mod oracle;
+mod order;
+mod outline_definitions;
+mod outlined_demand_three;
+mod outlined_memory;
+mod outlined_null_slices;
+mod outlined_order;
+mod outlined_points;
+mod outlined_refining;
+mod outlines_checking;
+mod points;
+mod range;
+mod reader;
+mod reader_order;
+mod refining;
+mod refining_refusals;
+mod refusals;
+mod refusals_named;
+mod round_trip;
+mod rust_interface;
+mod seam_walks;
+mod sizes;
+mod splitting;
