@@ -1,5 +1,6 @@
 -- Document 02 b: de Casteljau's steps. Source document 000, theorem 2.2, formula 2.15: from b^0 = b, step r makes
--- b^r(λ1, λ2, λ3) = τ1·b^(r-1)(λ1+1, λ2, λ3) + τ2·b^(r-1)(λ1, λ2+1, λ3) + τ3·b^(r-1)(λ1, λ2, λ3+1), and b^2(0, 0, 0)
+-- b^r(λ1, λ2, λ3) = τ1·b^(r-1)(λ1+1, λ2, λ3) + τ2·b^(r-1)(λ1, λ2+1, λ3)
+-- + τ3·b^(r-1)(λ1, λ2, λ3+1), and b^2(0, 0, 0)
 -- is the point. Here τ = (A, B, G) / 1024.
 use mathlib.Core.Path.{_≡_, refl}
 use Prim.Native.Nat.{ℕ}

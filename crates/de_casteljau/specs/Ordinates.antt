@@ -1,5 +1,5 @@
 -- Document 01, "Bézier net", of the small triangle that holds a place: corner P, the middle of the edge P, Q, and the
--- centre. Its six points are source document 000's Bézier ordinates b(λ1, λ2, λ3) with λ1 + λ2 + λ3 = 2. They are
+-- centre. Its six points are source document 000's Bézier ordinates b(λ1, λ2, λ3), λ1 + λ2 + λ3 = 2. They are
 -- written in one coordinate and times 36, of ck, cn, cm of the corners P, Q and T.
 use mathlib.Core.Path.{_≡_, refl}
 use mathlib.Core.Bool.{Bool, true, false, not}

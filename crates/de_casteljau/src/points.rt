@@ -11,7 +11,7 @@ pub struct Corner {
     pub m: i64,
 }
 
-// Source 000's Bézier ordinates b(λ1, λ2, λ3) of the small triangle of P, the middle of the edge P, Q and the centre.
+// Source 000's Bézier ordinates b(λ1, λ2, λ3) of the small triangle: P, the middle of the edge P, Q, the centre.
 pub struct Ordinates {
     // sP
     pub b200: i64,

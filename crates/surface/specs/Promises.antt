@@ -11,7 +11,8 @@ use Rattle.de_casteljau.specs.Averages.{lastAverage}
 use Rattle.de_casteljau.specs.Promises.{ordinatesIn}
 use Rattle.spline.specs.Spline.{quadratic, spline}
 
--- in both triangles and every order, the last average is A²sP + 2AB·u + 2AG·vP + B²r + 2BG·m + G²z (`last-is-exact`)
+-- in both triangles and every order, the last average is A²sP + 2AB·u + 2AG·vP + B²r + 2BG·m + G²z
+-- (`last-is-exact`)
 abbrev pub LastIsExact : Type 0
 LastIsExact =
     (down : Bool) (c : Controls) (o : Order) (A B G : ℕ) →

@@ -80,7 +80,8 @@ fn load_picked(net: &[i32], at: usize, k: usize, n: usize, m: usize) -> [[i32; 3
     [ck, cn, cm]
 }
 
-// The control triangle of a corner, counted from 0, in the order ck, cn, cm of document 01's Bézier net.
+// The control triangle of a corner, counted from 0, in the order ck, cn, cm of document 01's Bézier net. For
+// `surface`, whose order of the shares names corners below 3.
 pub fn load_corner(
     net: &[i32],
     w: usize,
