@@ -40,7 +40,7 @@ DUE = {
 # the most lines of a file
 MOST = {
     "README.md": 130,
-    "docs/REFERENCE.md": 240,
+    "docs/REFERENCE.md": 255,
     "examples/door.c": 80,
     "examples/point.c": 10,
     "rust/examples/point.rs": 10,

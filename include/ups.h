@@ -1,8 +1,8 @@
 /* ups: uniform Powell-Sabin surfaces on a triangular grid. A net of control triangles is a spline surface. The library
  * gives its Bezier nets and surface points, refines it, both with an outline of the door and without, splits it into a
- * coarse net and details, cleans details and merges both again, and writes and reads the net file. Its functions are
- * proved to meet their contracts; the static inline ones of this header are tested against them. The repository's
- * docs/REFERENCE.md has the formulas and the net file. For C99 or later, and C++.
+ * coarse net and details, cleans details and merges both again, makes the net through given points, and writes and
+ * reads the net file. Its functions are proved to meet their contracts; the static inline ones of this header are
+ * tested against them. The repository's docs/REFERENCE.md has the formulas and the net file. For C99 or later, and C++.
  *
  * Slices. A slice x is a pointer x, then its length x_len in elements. A slice of length 0 may have a null pointer. A
  * slice that is written overlaps no other slice of the same call; slices that are only read may overlap.
@@ -11,9 +11,9 @@
  * a refusal nothing that was lent has changed but the search of a call with an outline, where its comment says so. No
  * call has a precondition except valid slices.
  *
- * Memory. Nets, details, outlines and outputs may be longer than the lengths in a comment: what is beyond those that
- * count is neither read nor changed, and nothing after a result changes. No call needs an initialisation, a heap or
- * global state; calls may run on several threads at once, each with its own outputs.
+ * Memory. Nets, details, outlines, given points and outputs may be longer than the lengths in a comment: what is beyond
+ * those that count is neither read nor changed, and nothing after a result changes. No call needs an initialisation, a
+ * heap or global state; calls may run on several threads at once, each with its own outputs.
  *
  * Nets. Width w and height h count vertices; vertex (i, j) has column i and row j. Each has a control triangle c1, c2,
  * c3, each x, y, z, in units of 1/1024 mm, from -16,777,216 to 16,777,216. A net stores the vertices row by row, c1 to
@@ -38,9 +38,11 @@
 extern "C" {
 #endif
 
-/* Numbers of a vertex in a net, of a vertex in details, of a point and of a Bezier net; words of a vertex in a file. */
+/* Numbers of a vertex in a net, in details and in given points, of a point and of a Bezier net; words of a vertex in a
+ * file. */
 #define UPS_RECORD 9
 #define UPS_DETAIL_RECORD 9
+#define UPS_GIVEN_RECORD 9
 #define UPS_POINT 3
 #define UPS_BEZIER 57
 #define UPS_FILE_WORDS 9
@@ -70,14 +72,15 @@ enum ups_refusal {
     UPS_THRESHOLD = 12,
     UPS_OUTLINE_BYTE = 13,
     UPS_NOT_CONNECTED = 14,
-    UPS_OFF_DOOR = 15
+    UPS_OFF_DOOR = 15,
+    UPS_CONTROL_RANGE = 16
 };
 
 static inline const char *ups_refusal_text(uint32_t refusal) {
     switch (refusal) {
     case UPS_ACCEPTED: return "accepted";
     case UPS_SIZE: return "a side of the net is below 2 or above 1,025";
-    case UPS_SHORT: return "the net, the details or the outline are shorter than the size needs";
+    case UPS_SHORT: return "the net, the details, the outline or the given points are shorter than the size needs";
     case UPS_RANGE: return "a number is beyond its range";
     case UPS_DEPTH: return "more than 6 steps, or a refined side above 1,025";
     case UPS_ROOM: return "a lent output or scratch is too short";
@@ -91,6 +94,7 @@ static inline const char *ups_refusal_text(uint32_t refusal) {
     case UPS_OUTLINE_BYTE: return "a byte of the outline is neither 0 nor 1";
     case UPS_NOT_CONNECTED: return "the present triangles are none, or not connected by edges";
     case UPS_OFF_DOOR: return "the place or the triangle is off the door";
+    case UPS_CONTROL_RANGE: return "a control value of the net through the given points is beyond the net range";
     default: return "not a refusal of this library";
     }
 }
@@ -146,6 +150,11 @@ static inline size_t ups_coarse_numbers(size_t w, size_t h) {
 /* Numbers of the details of a net of w by h, the fine net. */
 static inline size_t ups_detail_numbers(size_t w, size_t h) {
     return ups_coarse_numbers(w, h) == 0 ? 0 : UPS_DETAIL_RECORD * w * h;
+}
+
+/* Numbers of the given points of a net of w by h. */
+static inline size_t ups_given_numbers(size_t w, size_t h) {
+    return ups_net_numbers(w, h) == 0 ? 0 : UPS_GIVEN_RECORD * w * h;
 }
 
 /* Bytes of the file of a net: width, height, the numbers and the end, in words of 4 bytes. */
@@ -292,6 +301,17 @@ uint32_t ups_merge(const int32_t *coarse, size_t coarse_len, const int32_t *deta
  * Lengths: details ups_detail_numbers(w, h).
  * Writes: those of the first ups_detail_numbers(w, h) details that are of size below t. */
 uint32_t ups_clean(int32_t *details, size_t details_len, size_t w, size_t h, uint32_t t);
+
+/* The net through given points, by Hermite interpolation. Given are a point p and two vectors t1 and t2 of each vertex,
+ * in this order, each x, y, z, UPS_GIVEN_RECORD numbers a vertex, row by row; they may be any numbers at all. The
+ * control points are c1 = p + t1, c2 = p + t2 and c3 = p - t1 - t2, exactly. The surface point at every vertex is p,
+ * and so it is after one step of refining; after more steps it may differ. Each quadratic piece of the exact spline
+ * that meets the vertex has the derivatives 2 t1 along (1, 0) and 2 t2 along (-1, 1) there, for one edge. No other net
+ * has these points and derivatives at its vertices.
+ * Refuses: UPS_SIZE, UPS_SHORT, UPS_ROOM, UPS_CONTROL_RANGE.
+ * Lengths: given ups_given_numbers(w, h), out ups_net_numbers(w, h).
+ * Writes: the first ups_net_numbers(w, h) numbers of out. */
+uint32_t ups_from_points(const int32_t *given, size_t given_len, size_t w, size_t h, int32_t *out, size_t out_len);
 
 /* The file of a net, and the count of its bytes.
  * Refuses: UPS_SIZE, UPS_SHORT, UPS_ROOM (of either output), UPS_RANGE.

@@ -12,6 +12,7 @@
 //!   into the net, with the same columns.
 //! - `clean`: the details of that net, of which half become 0. Each pass begins with the details
 //!   as they were; putting them back is not timed.
+//! - `from points`: the net of 1,025 by 1,025 through given points, and that of 17 by 17.
 //! - `write`, `read`: the file of a net of 1,025 by 1,025; `copy` copies the file's bytes.
 //!
 //! With an outline (`outlines.rs`): surface points and refining beside the library's own without
@@ -22,6 +23,7 @@
 mod outlines;
 mod plain;
 mod plain_file;
+mod plain_hermite;
 mod plain_multiresolution;
 mod plain_outline;
 mod plain_refine;
@@ -33,8 +35,8 @@ use std::cell::RefCell;
 use std::hint::black_box;
 use std::time::Instant;
 use ups::{
-    coarse_numbers, coarse_side, detail_numbers, file_bytes, lent, net_numbers, refined_numbers,
-    scratch_numbers, BEZIER, POINT,
+    coarse_numbers, coarse_side, detail_numbers, file_bytes, given_numbers, lent, net_numbers,
+    refined_numbers, scratch_numbers, BEZIER, POINT,
 };
 
 const SIDE: usize = 17;
@@ -48,6 +50,8 @@ const CALLS: usize = 4096;
 const ROUNDS: usize = 61;
 /// Passes over the list of inputs in one round, so that a round lasts some milliseconds.
 const PASSES: usize = 16;
+/// Calls on a whole small net in a pass.
+const NETS: usize = 64;
 /// The greatest size of what is added to a refined net, so that it has details.
 const NOISE: i32 = 1024;
 
@@ -409,6 +413,56 @@ fn clean(details: &[i32]) {
     measure_calls("clean", (len, len), put_back, &calls);
 }
 
+type FromPoints = fn(&[i32], Size, &mut [i32]) -> Result<(), Refusal>;
+
+/// The library's call, and plain Rust.
+const FROM_POINTS: [FromPoints; 2] = [
+    |given, (w, h), out| answer(lent::from_points(given, w, h, out)),
+    plain_hermite::from_points,
+];
+
+/// Makes the net of the greatest size through given points in each version.
+fn from_points(random: &mut Random) {
+    let given = &random_given(random, FINE_SIDE);
+    let len = net_numbers(FINE_SIDE, FINE_SIDE);
+    let calls = FROM_POINTS.map(|version| -> Call {
+        let size = (FINE_SIDE, FINE_SIDE);
+        Box::new(move |lent| version(black_box(given), size, lent))
+    });
+    measure_calls("from points", (len, len), |_| (), &calls);
+}
+
+/// The same of a small net.
+fn small_from_points(random: &mut Random) {
+    let given = &random_given(random, SIDE);
+    let versions = FROM_POINTS.map(|version| -> Pass {
+        let mut out: Vec<i32> = touched(net_numbers(SIDE, SIDE));
+        Box::new(move || {
+            for _ in 0..NETS {
+                let done = version(black_box(given), (SIDE, SIDE), &mut out);
+                assert_eq!(done, Ok(()));
+                black_box(&out);
+            }
+            sum(&out)
+        })
+    });
+    let subject = Subject {
+        name: "from points",
+        calls: NETS,
+        versions: versions.into(),
+    };
+    subject.measure();
+}
+
+/// Points and vectors of up to a third of the range, so that no sum leaves it.
+fn random_given(random: &mut Random, side: usize) -> Vec<i32> {
+    let most = LIMIT / 3;
+    let values = 2 * most as usize + 1;
+    (0..given_numbers(side, side))
+        .map(|_| random.below(values) as i32 - most)
+        .collect()
+}
+
 fn random_net(random: &mut Random, side: usize) -> Vec<i32> {
     let values = 2 * LIMIT as usize + 1;
     (0..net_numbers(side, side))
@@ -452,6 +506,10 @@ fn main() {
     println!();
     print_headings("ms per net", &["plain", "copy"]);
     clean(&details);
+    from_points(&mut random);
+    println!();
+    print_headings("ns per net", &["plain"]);
+    small_from_points(&mut random);
     println!();
     print_headings("ms per file", &["plain", "copy"]);
     let net = random_net(&mut random, FINE_SIDE);

@@ -377,3 +377,34 @@ pub fn merge(
 pub fn clean(details: &mut [i32], w: usize, h: usize, t: u32) -> Result<(), Refusal> {
     Refusal::check(raw::clean(details, w, h, t))
 }
+
+/// The net of `w` by `h` through given points into [`net_numbers`]`(w, h)` numbers of `out`.
+/// `given` begins with a point p and two vectors t1 and t2 of each vertex, row by row, each x, y,
+/// z: [`GIVEN_RECORD`] numbers a vertex, which may be any. The control points are c1 = p + t1,
+/// c2 = p + t2 and c3 = p - t1 - t2, exactly. This is Hermite interpolation: the surface point at
+/// each vertex is p, also after one step of refining, and each quadratic piece of the exact spline
+/// that meets the vertex has the derivatives 2 t1 along (1, 0) and 2 t2 along (-1, 1) there, for
+/// one edge. No other net has these points and derivatives at its vertices.
+///
+/// # Errors
+///
+/// `SIZE`, `SHORT`, `ROOM`, `CONTROL_RANGE`.
+///
+/// ```
+/// // At each vertex the point (10, 20, 30), with slopes in z alone.
+/// let given = [10, 20, 30, 0, 0, 3, 0, 0, -1].repeat(4);
+/// let mut net = [0; ups::net_numbers(2, 2)];
+/// ups::lent::from_points(&given, 2, 2, &mut net)?;
+/// assert_eq!(net[..ups::RECORD], [10, 20, 33, 10, 20, 29, 10, 20, 28]);
+/// let mut at = [0; ups::POINT];
+/// ups::lent::surface_point(&net, 2, 2, 1024, 0, &mut at)?;
+/// assert_eq!(at, [10, 20, 30]);
+/// # Ok::<(), ups::Refusal>(())
+/// ```
+///
+/// [`net_numbers`]: crate::net_numbers
+/// [`GIVEN_RECORD`]: crate::GIVEN_RECORD
+#[inline]
+pub fn from_points(given: &[i32], w: usize, h: usize, out: &mut [i32]) -> Result<(), Refusal> {
+    Refusal::check(raw::from_points(given, w, h, out))
+}

@@ -42,6 +42,10 @@
 //! **details** that this refinement lacks: [`DETAIL_RECORD`] numbers for each vertex, from
 //! -33,554,432 to 33,554,432.
 //!
+//! **Given points** are a point p and two vectors t1 and t2 for each vertex, [`GIVEN_RECORD`]
+//! numbers that may be any: the net through them has these points at its vertices, and slopes that
+//! are twice the vectors.
+//!
 //! The formulas and the net file are in the repository's `docs/REFERENCE.md`.
 
 #![deny(missing_docs)]
@@ -63,8 +67,9 @@ pub use door::Door;
 pub use net::Net;
 pub use refusal::Refusal;
 pub use size::{
-    coarse_numbers, coarse_side, detail_numbers, file_bytes, file_numbers, net_numbers,
-    refined_numbers, refined_triangles, scratch_numbers, side_after, triangles, BEZIER,
-    DETAIL_RECORD, EDGE, FILE_WORDS, GREATEST_DEPTH, GREATEST_SIDE, LEAST_SIDE, POINT, RECORD,
+    coarse_numbers, coarse_side, detail_numbers, file_bytes, file_numbers, given_numbers,
+    net_numbers, refined_numbers, refined_triangles, scratch_numbers, side_after, triangles,
+    BEZIER, DETAIL_RECORD, EDGE, FILE_WORDS, GIVEN_RECORD, GREATEST_DEPTH, GREATEST_SIDE,
+    LEAST_SIDE, POINT, RECORD,
 };
 pub use split::Split;

@@ -48,6 +48,32 @@ impl Net {
         refined(numbers, w, h, 0)
     }
 
+    /// The net of w by h through given points, which stand at the front of `given`: a point p and
+    /// two vectors t1 and t2 of each vertex, row by row, as [`lent::from_points`] takes them.
+    ///
+    /// # Errors
+    ///
+    /// [`SIZE`](Refusal::SIZE), [`SHORT`](Refusal::SHORT),
+    /// [`CONTROL_RANGE`](Refusal::CONTROL_RANGE).
+    ///
+    /// ```
+    /// use ups::{Net, Refusal};
+    ///
+    /// let mut given = [10, 20, 30, 0, 0, 3, 0, 0, -1].repeat(4);
+    /// let net = Net::from_points(2, 2, &given)?;
+    /// assert_eq!(net.vertex(1, 1)?, [10, 20, 33, 10, 20, 29, 10, 20, 28]);
+    /// assert_eq!(net.point(1024, 1024)?, [10, 20, 30]);
+    /// assert_eq!(net.refine(1)?.point(2048, 2048)?, [10, 20, 30]);
+    /// given[2] = 16_777_216; // and 3 more in c1
+    /// assert_eq!(Net::from_points(2, 2, &given), Err(Refusal::CONTROL_RANGE));
+    /// # Ok::<(), ups::Refusal>(())
+    /// ```
+    pub fn from_points(w: usize, h: usize, given: &[i32]) -> Result<Net, Refusal> {
+        let mut net = room_after(w, h, 0);
+        lent::from_points(given, w, h, &mut net.numbers)?;
+        Ok(net)
+    }
+
     /// The net of a file. Memory is taken for the size that the file states.
     ///
     /// # Errors

@@ -236,6 +236,16 @@ extern "C" {
 
     /// [`lent::clean`](crate::lent::clean).
     pub fn ups_clean(details: *mut i32, details_len: usize, w: usize, h: usize, t: u32) -> u32;
+
+    /// [`lent::from_points`](crate::lent::from_points).
+    pub fn ups_from_points(
+        given: *const i32,
+        given_len: usize,
+        w: usize,
+        h: usize,
+        out: *mut i32,
+        out_len: usize,
+    ) -> u32;
 }
 
 // The same over slices. Each pointer and length below is of one slice, and a slice that is
@@ -516,4 +526,11 @@ pub(crate) fn merge(coarse: &[i32], details: &[i32], w: usize, h: usize, out: &m
 pub(crate) fn clean(details: &mut [i32], w: usize, h: usize, t: u32) -> u32 {
     // SAFETY: as said above.
     unsafe { ups_clean(details.as_mut_ptr(), details.len(), w, h, t) }
+}
+
+#[inline]
+pub(crate) fn from_points(given: &[i32], w: usize, h: usize, out: &mut [i32]) -> u32 {
+    let (to, room) = (out.as_mut_ptr(), out.len());
+    // SAFETY: as said above.
+    unsafe { ups_from_points(given.as_ptr(), given.len(), w, h, to, room) }
 }

@@ -48,6 +48,9 @@ impl Refusal {
     /// 15: no present triangle has the place, or the triangle is missing, as any where all bytes of
     /// the outline are 0.
     pub const OFF_DOOR: Refusal = Refusal(15);
+    /// 16: a control value of the net through given points leaves the net range, as where an x of p
+    /// is 16,777,216 and that of t1 is 1.
+    pub const CONTROL_RANGE: Refusal = Refusal(16);
 
     /// What an answer of a function of [`raw`](crate::raw) says: 0 is accepted.
     #[inline]
@@ -68,7 +71,10 @@ impl fmt::Display for Refusal {
     fn fmt(&self, to: &mut fmt::Formatter) -> fmt::Result {
         to.pad(match *self {
             Refusal::SIZE => "a side of the net is below 2 or above 1,025",
-            Refusal::SHORT => "the net, the details or the outline are shorter than the size needs",
+            Refusal::SHORT => {
+                "the net, the details, the outline or the given points are shorter than the size \
+                 needs"
+            }
             Refusal::RANGE => "a number is beyond its range",
             Refusal::DEPTH => "more than 6 steps, or a refined side above 1,025",
             Refusal::ROOM => "a lent output or scratch is too short",
@@ -82,6 +88,9 @@ impl fmt::Display for Refusal {
             Refusal::OUTLINE_BYTE => "a byte of the outline is neither 0 nor 1",
             Refusal::NOT_CONNECTED => "the present triangles are none, or not connected by edges",
             Refusal::OFF_DOOR => "the place or the triangle is off the door",
+            Refusal::CONTROL_RANGE => {
+                "a control value of the net through the given points is beyond the net range"
+            }
             _ => "not a refusal of this library",
         })
     }

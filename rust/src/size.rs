@@ -10,6 +10,8 @@
 pub const RECORD: usize = 9;
 /// Details of a vertex.
 pub const DETAIL_RECORD: usize = 9;
+/// Numbers of a vertex in given points: a point and two vectors.
+pub const GIVEN_RECORD: usize = 9;
 /// Numbers of a point.
 pub const POINT: usize = 3;
 /// Numbers of a Bézier net: 19 points.
@@ -55,6 +57,16 @@ const fn vertices(w: usize, h: usize) -> usize {
 /// ```
 pub const fn net_numbers(w: usize, h: usize) -> usize {
     RECORD * vertices(w, h)
+}
+
+/// The numbers of the given points of a net of w by h; 0 where a side is out of range.
+///
+/// ```
+/// assert_eq!(ups::given_numbers(2, 3), 54);
+/// assert_eq!(ups::given_numbers(1, 3), 0);
+/// ```
+pub const fn given_numbers(w: usize, h: usize) -> usize {
+    GIVEN_RECORD * vertices(w, h)
 }
 
 /// A side after k steps; 0 where the side is out of range, k is above 6 or the answer would be

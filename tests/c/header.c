@@ -166,9 +166,21 @@ static void check_split_sizes(size_t w, size_t h) {
     free(net);
 }
 
+static void check_given_sizes(size_t w, size_t h) {
+    size_t given_len = ups_given_numbers(w, h), n = ups_net_numbers(w, h);
+    int32_t *given = numbers(given_len), *out = numbers(n);
+    about("given points", w, h, 0);
+    check(ups_from_points(given, given_len, w, h, out, n) == UPS_ACCEPTED, "given points and net");
+    check(ups_from_points(given, given_len - 1, w, h, out, n) == UPS_SHORT, "fewer given points");
+    check(ups_from_points(given, given_len, w, h, out, n - 1) == UPS_ROOM, "a shorter net");
+    free(out);
+    free(given);
+}
+
 static void check_sizes(size_t w, size_t h) {
     check_file_sizes(w, h);
     check_split_sizes(w, h);
+    check_given_sizes(w, h);
     check_outline_sizes(w, h);
     for (size_t k = 0; k <= UPS_GREATEST_DEPTH + 1; k++) {
         check_steps(w, h, k);
@@ -194,6 +206,7 @@ static void check_refused(size_t w, size_t h) {
     check(ups_coarse_side(w) == 0 || ups_coarse_side(h) == 0, "ups_coarse_side");
     check(ups_coarse_numbers(w, h) == 0, "ups_coarse_numbers");
     check(ups_detail_numbers(w, h) == 0, "ups_detail_numbers");
+    check(ups_given_numbers(w, h) == 0, "ups_given_numbers");
 }
 
 static void check_all_sizes(void) {
@@ -283,7 +296,7 @@ static void check_vertices(void) {
 
 static void check_texts(void) {
     const char *other = "not a refusal of this library";
-    for (uint32_t a = 0; a <= UPS_OFF_DOOR; a++) {
+    for (uint32_t a = 0; a <= UPS_CONTROL_RANGE; a++) {
         about("sentence", 0, 0, a);
         check(ups_refusal_text(a)[0] != '\0', "empty");
         check(strcmp(ups_refusal_text(a), other) != 0, "not a refusal's");
@@ -291,7 +304,7 @@ static void check_texts(void) {
             check(strcmp(ups_refusal_text(a), ups_refusal_text(b)) != 0, "another refusal's");
         }
     }
-    check(strcmp(ups_refusal_text(UPS_OFF_DOOR + 1), other) == 0, "of 16");
+    check(strcmp(ups_refusal_text(UPS_CONTROL_RANGE + 1), other) == 0, "of 17");
     check(strcmp(ups_refusal_text(UINT32_MAX), other) == 0, "of the greatest number");
 }
 
@@ -300,6 +313,7 @@ enum {
     SIDE = 3,
     NUMBERS = SIDE * SIDE * UPS_RECORD,
     DETAILS = SIDE * SIDE * UPS_DETAIL_RECORD,
+    GIVEN = SIDE * SIDE * UPS_GIVEN_RECORD,
     COARSE = 2 * 2 * UPS_RECORD,
     FINER = 5 * 5 * UPS_RECORD,
     TRIANGLES = 2 * 2 * 2,
@@ -307,7 +321,8 @@ enum {
     BYTES = 4 * (SIDE * SIDE * UPS_FILE_WORDS + 3)
 };
 
-static int32_t net[NUMBERS], coarse[COARSE], details[DETAILS], finer[FINER], bezier[UPS_BEZIER], at[UPS_POINT];
+static int32_t net[NUMBERS], coarse[COARSE], details[DETAILS], given[GIVEN], finer[FINER], bezier[UPS_BEZIER];
+static int32_t at[UPS_POINT];
 static double view[UPS_POINT];
 static uint8_t file[BYTES + 1], outline[TRIANGLES] = {1, 1, 1, 1, 1, 1, 1, 1}, fine[FINER_TRIANGLES];
 static uint32_t search[TRIANGLES];
@@ -377,6 +392,25 @@ static void check_other_refusals(void) {
     details[0] = 33554433;
     check(ups_merge(coarse, COARSE, details, DETAILS, 2, 2, net, NUMBERS) == UPS_RANGE, "range");
     details[0] = 0;
+    given[0] = 16777217;
+    check(ups_from_points(given, GIVEN, SIDE, SIDE, net, NUMBERS) == UPS_CONTROL_RANGE, "control range");
+    given[0] = 0;
+}
+
+/* x of p, t1 and t2 of the last vertex, and the control points and the surface point there. */
+static void check_through(void) {
+    const int32_t due[UPS_RECORD] = {13, 0, 0, 8, 0, 0, 9, 0, 0};
+    int32_t *last = given + GIVEN - UPS_GIVEN_RECORD, *through = numbers(NUMBERS);
+    about("through given points", SIDE, SIDE, 0);
+    last[0] = 10;
+    last[3] = 3;
+    last[6] = -2;
+    check(ups_from_points(given, GIVEN, SIDE, SIDE, through, NUMBERS) == UPS_ACCEPTED &&
+          memcmp(through + NUMBERS - UPS_RECORD, due, sizeof due) == 0, "control points");
+    check(ups_surface_point(through, NUMBERS, SIDE, SIDE, 2048, 2048, at, UPS_POINT) == UPS_ACCEPTED && at[0] == 10,
+          "the given point");
+    last[0] = last[3] = last[6] = 0;
+    free(through);
 }
 
 /* A null pointer with length 0 in the place of each slice. */
@@ -447,6 +481,13 @@ static void check_null_details(void) {
     check(ups_clean(NULL, 0, SIDE, SIDE, 1) == UPS_SHORT, "clean, details");
 }
 
+static void check_null_given(void) {
+    about("null slice of given points", SIDE, SIDE, 0);
+    check(ups_from_points(NULL, 0, SIDE, SIDE, net, NUMBERS) == UPS_SHORT, "from_points, given");
+    check(ups_from_points(given, GIVEN, SIDE, SIDE, NULL, 0) == UPS_ROOM, "from_points, out");
+    check(ups_from_points(NULL, 0, 1, SIDE, NULL, 0) == UPS_SIZE, "from_points, both");
+}
+
 static void check_null_file(void) {
     about("null slice of a file", SIDE, SIDE, 0);
     check(ups_write(NULL, 0, SIDE, SIDE, file, BYTES, written, 1) == UPS_SHORT, "write, net");
@@ -465,11 +506,13 @@ int main(void) {
     check_texts();
     check_lengths();
     check_other_refusals();
+    check_through();
     check_outlined();
     check_null_points();
     check_null_refining();
     check_null_outline();
     check_null_details();
+    check_null_given();
     check_null_file();
     return failures > 0;
 }

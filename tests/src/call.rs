@@ -3,6 +3,7 @@
 
 mod outlined;
 
+use crate::hermite;
 use crate::kernel::{self, LentDetails, LentFile, LentNet, RefinedDoor, RefinedPoint, Room};
 use crate::multiresolution::{self, Split};
 use crate::netfile::{self, FileNet};
@@ -53,6 +54,7 @@ pub enum Ask {
     Clean {
         t: u32,
     },
+    FromPoints,
     /// Of an outline alone.
     Check,
 }
@@ -117,7 +119,7 @@ fn lent_len(needed: Option<usize>) -> usize {
 
 #[derive(Clone)]
 pub struct Call {
-    /// For merge the coarse net, for clean the details.
+    /// For merge the coarse net, for clean the details, for a net through given points these.
     pub net: Vec<i32>,
     pub w: usize,
     pub h: usize,
@@ -198,6 +200,7 @@ impl Call {
             }
             Ask::Split { .. } => lent_len(multiresolution::coarse_len((w, h))),
             Ask::Merge => lent_len(refinement::refined_len((w, h), 1)),
+            Ask::FromPoints => lent_len(hermite::net_len((w, h))),
             Ask::Clean { .. } | Ask::Check => 0,
         };
         let details_len = match ask {
@@ -278,6 +281,7 @@ impl Call {
             }
             Ask::Merge => multiresolution::merge_faults(net, &self.details, size, self.out_len),
             Ask::Clean { t } => multiresolution::clean_faults(net, size, t),
+            Ask::FromPoints => hermite::from_points_faults(net, size, self.out_len),
             Ask::Check => panic!("no outline"),
         }
     }
@@ -318,6 +322,7 @@ impl Call {
                 self.out_len,
             )),
             Ask::Clean { t } => list_answer(multiresolution::clean(net, size, t)),
+            Ask::FromPoints => list_answer(hermite::from_points(net, size, self.out_len)),
             Ask::Check => panic!("no outline"),
         }
     }
@@ -361,6 +366,7 @@ impl Call {
                 list_answer(net.merge(&details, size, self.out_len))
             }
             Ask::Clean { t } => list_answer(kernel::clean(net.numbers(), size, t)),
+            Ask::FromPoints => list_answer(net.from_points(size, self.out_len)),
             Ask::Check => panic!("no outline"),
         }
     }

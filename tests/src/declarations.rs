@@ -14,6 +14,7 @@ use std::path::Path;
 pub const EXPORTS: &str = "crates/ups/src/lib.rt";
 pub const NET_RECORDS: &str = "crates/net/src/records.rt";
 pub const DETAIL_RECORDS: &str = "crates/details/src/records.rt";
+pub const GIVEN_RECORDS: &str = "crates/hermite/src/records.rt";
 pub const HEADER: &str = "include/ups.h";
 pub const RAW: &str = "rust/src/raw.rs";
 pub const SIZES: &str = "rust/src/size.rs";
@@ -23,10 +24,11 @@ pub const REFERENCE: &str = "docs/REFERENCE.md";
 pub const PACKAGE: &str = "ups.pc.in";
 pub const MANIFEST: &str = "rust/Cargo.toml";
 
-pub const FILES: [&str; 11] = [
+pub const FILES: [&str; 12] = [
     EXPORTS,
     NET_RECORDS,
     DETAIL_RECORDS,
+    GIVEN_RECORDS,
     HEADER,
     RAW,
     SIZES,
@@ -198,9 +200,10 @@ fn compare_reference(report: &mut Report, exports: &[Function], page: &str) {
 }
 
 /// The kernel's lengths of records, and the ends of their names in the header and in Rust.
-const RECORDS: [(&str, &str, &str); 2] = [
+const RECORDS: [(&str, &str, &str); 3] = [
     (NET_RECORDS, "STRIDE", "RECORD"),
     (DETAIL_RECORDS, "DETAIL_STRIDE", "DETAIL_RECORD"),
+    (GIVEN_RECORDS, "GIVEN_STRIDE", "GIVEN_RECORD"),
 ];
 
 fn compare_records(report: &mut Report, texts: &Texts) {

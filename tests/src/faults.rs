@@ -4,7 +4,7 @@ use crate::call::{Ask, Call};
 use crate::netfile;
 use crate::oracle::LIMIT;
 use crate::order::{self, Fault};
-use crate::record::{self, RECORD};
+use crate::record::{self, GIVEN_RECORD, RECORD};
 use crate::refinement;
 
 const MAX: usize = usize::MAX;
@@ -15,15 +15,28 @@ pub fn refines(ask: Ask) -> bool {
     matches!(ask, Ask::Refine { .. } | Ask::RefinedPoint { .. })
 }
 
-/// Makes the net and a file long enough for their size, so that number 1 can stand alone. Where
-/// a net is refined it cannot, since a side above 1,025 is number 4 as well.
+/// Numbers of a vertex in the net, or in the given points, that a call is lent to read.
+fn record_of(call: &Call) -> usize {
+    match call.ask {
+        Ask::FromPoints => GIVEN_RECORD,
+        _ => RECORD,
+    }
+}
+
+/// Makes the net and a file, or the given points and the net, long enough for their size, so that
+/// number 1 can stand alone. Where a net is refined it cannot, since a side above 1,025 is number 4
+/// as well.
 fn lengthen(call: &mut Call) {
     if refines(call.ask) {
         return;
     }
-    call.net.resize(record::numbers((call.w, call.h)), 0);
-    if matches!(call.ask, Ask::Write { .. }) {
-        call.out_len = netfile::file_len(call.w, call.h).expect("a length");
+    call.net.resize(record_of(call) * call.w * call.h, 0);
+    match call.ask {
+        Ask::Write { .. } => {
+            call.out_len = netfile::file_len(call.w, call.h).expect("a length");
+        }
+        Ask::FromPoints => call.out_len = record::numbers((call.w, call.h)),
+        _ => {}
     }
 }
 
@@ -110,12 +123,13 @@ pub fn net_faults() -> Vec<Fault> {
     vec![
         // One number missing, where the size allows a net to be lent.
         |c| {
-            let needed = c.w.checked_mul(c.h).and_then(|n| n.checked_mul(RECORD));
+            let vertices = c.w.checked_mul(c.h);
+            let needed = vertices.and_then(|n| n.checked_mul(record_of(c)));
             let len = needed.unwrap_or(0).saturating_sub(1);
             c.net.truncate(len);
         },
         // The first vertex only, which holds the number that may be beyond its range.
-        |c| c.net.truncate(RECORD),
+        |c| c.net.truncate(record_of(c)),
         |c| c.net.clear(),
     ]
 }
@@ -161,6 +175,24 @@ pub fn number_faults() -> Vec<Fault> {
     vec![|c| c.net[0] = LIMIT + 1, |c| c.net[0] = i32::MIN, |c| {
         c.net.fill(i32::MAX)
     }]
+}
+
+/// x of p, t1 and t2 of the first vertex, all else of it 0.
+fn set_given(call: &mut Call, [p, t1, t2]: [i32; 3]) {
+    let [y, z] = [0; 2];
+    let numbers: [i32; GIVEN_RECORD] = [p, y, z, t1, y, z, t2, y, z];
+    call.net[..GIVEN_RECORD].copy_from_slice(&numbers);
+}
+
+/// Given points of which a control value is beyond the net range: of the first vertex, by a little
+/// and by a sum that leaves 32 bits, and of all vertices.
+pub fn control_faults() -> Vec<Fault> {
+    vec![
+        |c| set_given(c, [LIMIT, 1, 0]),
+        |c| set_given(c, [0, 0, -LIMIT - 1]),
+        |c| set_given(c, [1_431_655_765, -1_431_655_765, -1_431_655_765]),
+        |c| c.net.fill(i32::MIN),
+    ]
 }
 
 /// The bytes of the call's outline; none where it has no outline.

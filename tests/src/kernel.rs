@@ -8,6 +8,7 @@
 
 mod outlined;
 
+use crate::hermite;
 use crate::multiresolution::{self, Split};
 use crate::netfile::FileNet;
 use crate::oracle::{BEZIER_NUMBERS, POINT_NUMBERS};
@@ -237,6 +238,7 @@ pub struct Lent<T> {
 
 pub type LentNet = Lent<i32>;
 pub type LentDetails = Lent<i32>;
+pub type LentGiven = Lent<i32>;
 pub type LentFile = Lent<u8>;
 
 impl<T: Number + PartialEq> Lent<T> {
@@ -453,6 +455,17 @@ impl LentNet {
         details.check();
         let merged = out.front(refusal, count(refinement::refined_len((w, h), 1)))?;
         Ok(merged.to_vec())
+    }
+
+    /// The numbers of the net through these given points.
+    pub fn from_points(&self, (w, h): (usize, usize), out_len: usize) -> Result<Vec<i32>, u32> {
+        let mut out = Output::<i32>::new(out_len);
+        let (given, len) = (self.pointer(), self.numbers.len());
+        // SAFETY: `len` and `out_len` numbers are lent.
+        let refusal = unsafe { raw::ups_from_points(given, len, w, h, out.pointer(), out_len) };
+        self.check();
+        let net = out.front(refusal, count(hermite::net_len((w, h))))?;
+        Ok(net.to_vec())
     }
 }
 

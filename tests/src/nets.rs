@@ -91,6 +91,30 @@ pub fn random_details(random: &mut Random, size: (usize, usize), most: i32) -> V
     numbers.map(|_| random.between(-most, most)).collect()
 }
 
+/// p, t1 and t2 in one coordinate that are accepted: c1 and c2 are such numbers, and p is one with
+/// which c3 = 3p - c1 - c2 is in range, often next to an end of it. Small ones are all small.
+fn random_jet(random: &mut Random, numbers: Numbers) -> [i32; 3] {
+    if let Numbers::Small = numbers {
+        return [0; 3].map(|_| random_number(random, numbers));
+    }
+    let [c1, c2] = [0; 2].map(|_| random_number(random, numbers));
+    let least = (c1 + c2 - LIMIT + 2).div_euclid(3);
+    let greatest = (c1 + c2 + LIMIT).div_euclid(3);
+    let between = random.between(least, greatest);
+    let p = random.pick(&[least, greatest, between, between]);
+    [p, c1 - p, c2 - p]
+}
+
+/// Given points of a net of the given size that are accepted.
+pub fn random_given(random: &mut Random, (w, h): (usize, usize), numbers: Numbers) -> Vec<i32> {
+    let mut given = Vec::with_capacity(record::given((w, h)));
+    for _ in 0..w * h {
+        let [x, y, z] = [0; 3].map(|_| random_jet(random, numbers));
+        given.extend([0, 1, 2].map(|n| [x[n], y[n], z[n]]).as_flattened());
+    }
+    given
+}
+
 /// At least 100 places of a net of the given size.
 pub fn places(random: &mut Random, size: (usize, usize)) -> Vec<(usize, usize)> {
     places_at(random, size, 1024)

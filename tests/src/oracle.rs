@@ -256,7 +256,12 @@ pub fn order(shares: [i128; 3]) -> [usize; 3] {
 
 /// A, B and G.
 pub(crate) fn gaps(shares: [i128; 3]) -> [i128; 3] {
-    let [a, b, d] = order(shares).map(|corner| shares[corner]);
+    gaps_of(order(shares), shares)
+}
+
+/// A, B and G where P, Q, T are these corners.
+fn gaps_of(corners: [usize; 3], shares: [i128; 3]) -> [i128; 3] {
+    let [a, b, d] = corners.map(|corner| shares[corner]);
     [a - b, 2 * (b - d), 3 * d]
 }
 
@@ -324,9 +329,15 @@ impl Patch {
 
     /// The exact value for the given shares at edge count `edge`.
     pub fn exact(&self, shares: [i128; 3], edge: i128) -> Point {
+        self.quadratic(order(shares), shares, edge)
+    }
+
+    /// The quadratic of the piece whose corners P, Q, T are these, for any shares: outside the
+    /// piece they are in another order, and outside the triangle some are below 0.
+    pub fn quadratic(&self, corners: [usize; 3], shares: [i128; 3], edge: i128) -> Point {
         assert_eq!(shares.iter().sum::<i128>(), edge);
-        let [p, q, _] = order(shares);
-        let [a, b, g] = gaps(shares);
+        let [p, q, _] = corners;
+        let [a, b, g] = gaps_of(corners, shares);
         let total = sum(&[
             times(a * a, self.s(p)),
             times(2 * a * b, self.u(p, q)),

@@ -2,8 +2,8 @@
 
 use crate::call::Call;
 
-/// The order on nets. A call has some of these numbers.
-pub const ORDER: [u32; 12] = [1, 4, 10, 12, 6, 2, 13, 15, 5, 14, 3, 11];
+/// The order on nets. A call has some of these numbers; one with 16 has it for 3.
+pub const ORDER: [u32; 13] = [1, 4, 10, 12, 6, 2, 13, 15, 5, 14, 3, 16, 11];
 
 /// Puts one fault into a call.
 pub type Fault = fn(&mut Call);

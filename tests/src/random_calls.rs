@@ -94,6 +94,13 @@ pub fn clean(random: &mut Random) -> Call {
     Call::new(&details, size, Ask::Clean { t })
 }
 
+pub fn from_points(random: &mut Random) -> Call {
+    let size = nets::random_size(random);
+    let numbers = random.pick(&NUMBERS);
+    let given = nets::random_given(random, size, numbers);
+    Call::new(&given, size, Ask::FromPoints)
+}
+
 /// The outline of a call on a net, connected more often than not.
 fn outline(random: &mut Random, size: Size) -> Vec<u8> {
     match random.below(4) {
@@ -179,7 +186,7 @@ fn set_argument(random: &mut Random, call: &mut Call) {
         Ask::Refine { k, .. } => *k = wild,
         Ask::RefinedPoint { k, p, q, .. } => *[k, p, q][random.below(3)] = wild,
         Ask::Clean { t } => *t = wild as u32,
-        Ask::Write { .. } | Ask::Split { .. } | Ask::Merge | Ask::Check => {}
+        Ask::Write { .. } | Ask::Split { .. } | Ask::Merge | Ask::FromPoints | Ask::Check => {}
     }
 }
 
@@ -197,7 +204,7 @@ fn set_outline(random: &mut Random, call: &mut Call) {
     }
 }
 
-/// The net or the details that are lent to be read.
+/// The net, the details or the given points that are lent to be read.
 fn numbers<'a>(random: &mut Random, call: &'a mut Call) -> &'a mut Vec<i32> {
     match (call.ask, random.below(2)) {
         (Ask::Merge, 0) => &mut call.details,

@@ -7,6 +7,7 @@ use crate::call::{
     bits_answer, bytes_answer, list_answer, numbers_answer, refined_answer, split_answer,
     vertex_answer, Answer, Ask, Call, Reading,
 };
+use crate::hermite;
 use crate::kernel::{count, Output, RefinedPoint, Refining, Room};
 use crate::multiresolution::{self, Split};
 use crate::netfile::FileNet;
@@ -50,6 +51,7 @@ impl Call {
             Ask::Split { details_len } => split_answer(self.lent_split(details_len)),
             Ask::Merge => list_answer(self.lent_merge()),
             Ask::Clean { t } => list_answer(self.lent_clean(t)),
+            Ask::FromPoints => list_answer(self.lent_from_points()),
             Ask::Check => panic!("no outline"),
         }
     }
@@ -145,13 +147,34 @@ impl Call {
         Ok(details.front(number(&answer), len)?.to_vec())
     }
 
-    /// The answer of a net that is made of the numbers; of a split, where details are merged.
+    fn lent_from_points(&self) -> Result<Vec<i32>, u32> {
+        let mut out = Output::<i32>::new(self.out_len);
+        let answer = lent::from_points(&self.net, self.w, self.h, out.slice());
+        let len = count(hermite::net_len((self.w, self.h)));
+        Ok(out.front(number(&answer), len)?.to_vec())
+    }
+
+    /// The answer of a net that is made of the numbers; of a split, where details are merged; of
+    /// given points the net itself.
     pub fn of_net(&self) -> Answer {
-        let answer = Net::new(self.w, self.h, &self.net).and_then(|net| match &self.outline {
+        let answer = match self.ask {
+            Ask::FromPoints => self.through_points(),
+            _ => self.asked_of_numbers(),
+        };
+        answer.unwrap_or_else(|refusal| Answer::Refused(refusal.number()))
+    }
+
+    fn through_points(&self) -> Result<Answer, Refusal> {
+        let net = Net::from_points(self.w, self.h, &self.net)?;
+        Ok(Answer::Numbers(self.refined_by(0, net)))
+    }
+
+    fn asked_of_numbers(&self) -> Result<Answer, Refusal> {
+        let net = Net::new(self.w, self.h, &self.net)?;
+        match &self.outline {
             Some(outline) => self.asked_of_door(net, outline),
             None => self.asked_of(net),
-        });
-        answer.unwrap_or_else(|refusal| Answer::Refused(refusal.number()))
+        }
     }
 
     fn asked_of(&self, net: Net) -> Result<Answer, Refusal> {
@@ -171,7 +194,9 @@ impl Call {
                 let split = ups::Split::new(net, &self.details)?;
                 Answer::Numbers(self.refined_by(1, split.merge()?))
             }
-            Ask::Clean { .. } | Ask::Check => panic!("no call of a net: {self:?}"),
+            Ask::Clean { .. } | Ask::FromPoints | Ask::Check => {
+                panic!("no call of a net: {self:?}")
+            }
         })
     }
 
@@ -193,9 +218,12 @@ impl Call {
         }
     }
 
-    /// The oracle's answer where a net is made first, and the crate lends what the call needs: the
-    /// first fault of the net, and then of the call.
+    /// The oracle's answer where a net is made first, but of given points, and the crate lends what
+    /// the call needs: the first fault of the net, and then of the call.
     pub fn of_oracle_net(&self) -> Answer {
+        if self.ask == Ask::FromPoints {
+            return self.with_room().of_oracle();
+        }
         let (size, room) = ((self.w, self.h), usize::MAX);
         let made = refinement::refine_faults(&self.net, size, 0, room, room);
         match (oracle::refusal(&made), &self.outline) {

@@ -4,9 +4,7 @@ use mathlib.Core.Bool.{Bool, true, false, cond}
 use mathlib.Core.List.{List, [], _∷_, _++_, map}
 use mathlib.Core.Logic.{_⊎_, inl, inr}
 use Prim.Native.Nat.{ℕ, zero, suc, _+_, _*_, _≤_, _<_}
-use native.Mathlib.Nat.{mul-comm}
 use native.Mathlib.Omega.{arith}
-use lib.Arith.{digits-lt}
 use lib.Dec.{ltb, lit<}
 use lib.IntN.{ℤ, pos, natAbs}
 use lib.ListN.{length, take, drop, length-take, length-map, List·getD-append}
@@ -18,7 +16,7 @@ use Rattle.net.specs.Net.{Index, one, two, three, rank, Vertex, vertexAt, Field
 use Rattle.net.specs.Refusals.{accepted, outside, anyOutside, badSize}
 use Rattle.net.proofs.Faults.{Clear, clear-none, none-clear, or-no}
 use Rattle.net.proofs.Grids.{grid-length, grid-number, grid-same, any-grid}
-use Rattle.net.proofs.Places.{point-number}
+use Rattle.net.proofs.Places.{record-ends, point-number}
 use Rattle.net.proofs.Ranges.{in-range, any-three, any-runs}
 use Rattle.details.specs.Details.{detailPointStride, detailStride, detailNumbers, detailStart, detailTriangle, detailField, detailPoint, detailControls, detailRun, storedDetails, detailPoints}
 use Rattle.details.specs.Refusals.{evenSize, detailLimit, detailsBeyond, tooGreat, cleanFaults, cleanRefusal}
@@ -28,10 +26,7 @@ use Rattle.details.specs.Cleaning.{cleaned, cleanedDetails, Cleaned, cle
 
 -- the details of a vertex end within those of the net
 pub detail-ends : {w h i j : ℕ} → i < w → j < h → detailStart w (vertexAt i j) + detailStride ≤ detailNumbers w h
-detail-ends {w} {h} {i} {j} a b =
-    let place : j * w + i < h * w = digits-lt b a in
-    let turned : h * w ≡ w * h = mul-comm h w in
-    omega (arith, place, turned)
+detail-ends {w} {h} {i} {j} = record-ends detailStride {w = w} {h = h} {i = i} {j = j}
 
 pub within-record : (k : Index) (x : ℕ) → x < 3 → detailPointStride * rank k + x < detailStride
 within-record one x h = omega (arith, h)

@@ -3,7 +3,7 @@ use mathlib.Core.Path.{_≡_, refl, sym, ap, subst, _∙_}
 use mathlib.Core.Bool.{false}
 use mathlib.Core.List.{List, [], _∷_}
 use Prim.Native.Nat.{ℕ, zero, suc, _+_, _*_, _≤_, _<_}
-use native.Mathlib.Nat.{mul-le-mul, mul-comm}
+use native.Mathlib.Nat.{le-refl, mul-le-mul, mul-add, mul-one, mul-comm}
 use native.Mathlib.Omega.{arith}
 use native.Mathlib.Numerals.{unary-clauses}
 use lib.Arith.{digits-lt}
@@ -14,7 +14,7 @@ use lib.Seq.{sets, getD-take, getD-drop}
 use borrow.Author.Tests.{ltb-false, leb-false}
 use Rattle.exact.specs.Filling.{runs}
 use Rattle.exact.proofs.FillingLaws.{array-elements}
-use Rattle.net.specs.Net.{Index, one, two, three, rank, Vertex, vertexAt, numbers, start, vertexNumbers, number, controlPoint, controlTriangle, field, stride, pointStride}
+use Rattle.net.specs.Net.{Index, one, two, three, rank, Vertex, vertexAt, recordStart, numbers, start, vertexNumbers, number, controlPoint, controlTriangle, field, stride, pointStride}
 use Rattle.net.specs.Refusals.{badSide, badSize, noVertex, shortNet, netLimit, anyBeyond, vertexRefusal, vertexPart}
 use Rattle.net.proofs.Faults.{or-none, fault-none, when-accepted, when-refused}
 use Rattle.net.proofs.Ranges.{in-range}
@@ -41,12 +41,15 @@ good-size w h e =
 pub few-vertices : {w h : ℕ} → GoodSize w h → w * h ≤ 1050625
 few-vertices s = mul-le-mul (s .narrow) (s .low)
 
--- the numbers of a vertex end within the net
-pub vertex-ends : {w h i j : ℕ} → i < w → j < h → start w (vertexAt i j) + stride ≤ numbers w h
-vertex-ends {w} {h} {i} {j} a b =
+-- a vertex's record of n numbers ends within those of the grid, and so its numbers within the net
+pub record-ends : (n : ℕ) {w h i j : ℕ} → i < w → j < h → recordStart n w (vertexAt i j) + n ≤ n * (w * h)
+record-ends n {w} {h} {i} {j} a b =
     let place : j * w + i < h * w = digits-lt b a in
-    let turned : h * w ≡ w * h = mul-comm h w in
-    omega (arith, place, turned)
+    let before : j * w + i + 1 ≤ w * h = omega (arith, place, mul-comm h w) in
+    omega (arith, mul-le-mul (le-refl n) before, mul-add n (j * w + i) 1, mul-one n)
+
+pub vertex-ends : {w h i j : ℕ} → i < w → j < h → start w (vertexAt i j) + stride ≤ numbers w h
+vertex-ends {w} {h} {i} {j} = record-ends stride {w = w} {h = h} {i = i} {j = j}
 
 -- what an accepted vertex is known by
 pub record GoodVertex (net : List ℤ) (w h i j : ℕ) : Type 0 where

@@ -3,23 +3,24 @@
 use mathlib.Core.Path.{_≡_, sym, ap, subst, _∙_}
 use mathlib.Core.Bool.{Bool, false, _||_}
 use mathlib.Core.List.{List, _++_}
-use Prim.Native.Nat.{ℕ, _+_, _-_, _*_, _/_, _%_, _≤_, _<_}
+use Prim.Native.Nat.{ℕ, _+_, _-_, _*_, _%_, _≤_, _<_}
 use native.Mathlib.Omega.{arith}
 use lib.Dec.{ltb, lit<}
 use lib.IntN.{ℤ, pos, natAbs, _-ℤ_}
 use lib.ListN.{length}
-use borrow.Author.Tests.{ltb-false, le-ltb, eqb-false}
+use borrow.Author.Tests.{ltb-false, eqb-false}
 use Rattle.exact.specs.Filling.{over, runs}
 use Rattle.exact.specs.Rounding.{rounded}
 use Rattle.exact.proofs.Parts.{integers, difference-parts}
 use Rattle.exact.proofs.Order.{size-difference}
-use Rattle.net.specs.Net.{Index, one, two, three, Field, vertexAt, vertexOf, numbers, field}
+use Rattle.net.specs.Net.{Index, one, two, three, vertexAt, vertexOf, numbers, field}
 use Rattle.net.specs.Refusals.{netLimit, badSize, anyBeyond, AcceptedNet}
 use Rattle.net.proofs.Accepted.{good-sides, accepted-over, accepted-vertex}
 use Rattle.net.proofs.Faults.{or-none, none-clear}
 use Rattle.net.proofs.Grids.{grid-by-number}
 use Rattle.net.proofs.Places.{good-size}
-use Rattle.subdivision.specs.Refinement.{refinedSide, isOdd, kindBy, beginBy, endBy, keptControl, ruleBy, exactRefinement, refinement}
+use Rattle.subdivision.specs.Refinement.{refinedSide, keptControl, refinement}
+use Rattle.subdivision.proofs.Children.{kept-refined}
 use Rattle.steps.proofs.StoredNets.{stored-length, stored-field, refinement-local}
 use Rattle.refine.proofs.RefinedNets.{refined-size}
 use Rattle.details.specs.Details.{detailNumbers, detailRun, storedDetails}
@@ -148,20 +149,6 @@ details-within net w h short coarse details e =
     details-small net w h coarse (split-accepted net w h short (length coarse) (length details) e) details
 
 -- ---- the detail at a kept vertex
-
--- an even column or row, halved
-even-side : (n : ℕ) → (isOdd (2 * n) ≡ false) × (2 * n / 2 ≡ n)
-even-side n = (le-ltb (2 * (2 * n / 2)) (2 * n) (omega arith), omega arith)
-
-kept-refined : (G : Field) (i j : ℕ) (k : Index) →
-    refinement G (vertexAt (2 * i) (2 * j)) k ≡ rounded (keptControl (G (vertexAt i j)) k) 12
-unfolding refinement exactRefinement
-kept-refined G i j k =
-    let e = even-side i in
-    let f = even-side j in
-    λ t.
-    let kind = kindBy (e .0 t) (f .0 t) in
-    rounded (ruleBy kind (G (beginBy kind (e .1 t) (f .1 t))) (G (endBy kind (e .1 t) (f .1 t))) k) 12
 
 no-difference : {a b : ℤ} → b ≡ a → a -ℤ b ≡ pos 0
 no-difference {a} {b} e = omega (integers, difference-parts a b)

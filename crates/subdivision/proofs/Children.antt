@@ -6,11 +6,12 @@ use Prim.Native.Nat.{ℕ, _+_, _-_, _*_, _/_, _≤_}
 use native.Mathlib.Decide.{decLe}
 use native.Mathlib.Omega.{arith}
 use borrow.Author.Tests.{lt-ltb, le-ltb, ltb-true, ltb-false}
-use Rattle.net.specs.Net.{Index, one, two, three, Vertex, vertexAt, Triangle, triangleAt, OfNet, corner, isNext, same}
+use Rattle.exact.specs.Rounding.{rounded}
+use Rattle.net.specs.Net.{Index, one, two, three, Vertex, vertexAt, Triangle, triangleAt, OfNet, corner, Field, isNext, same}
 use Rattle.triangles.specs.BezierPoints.{indexK}
 use Rattle.triangles.proofs.Corners.{back, stays}
 use Rattle.spline.proofs.Located.{Located, acrossBy, upBy}
-use Rattle.subdivision.specs.Refinement.{Kind, kept, along, isOdd, kindBy, kindOf, beginBy, endBy, beginOf, endOf, refinedSide}
+use Rattle.subdivision.specs.Refinement.{Kind, kept, along, isOdd, kindBy, kindOf, beginBy, endBy, beginOf, endOf, refinedSide, keptControl, ruleBy, exactRefinement, refinement}
 use Rattle.subdivision.specs.Promises.{ComesFrom, VerticesComeFrom}
 
 -- ---- where refined vertices come from
@@ -45,6 +46,21 @@ comes-from v = by (isOdd (v .column)) (isOdd (v .row)) refl refl
       back
           (v .row / 2),
     )
+
+-- the refined values at a kept vertex, from the old vertex alone
+pub kept-refined : (F : Field) (i j : ℕ) (k : Index) →
+    refinement F (vertexAt (2 * i) (2 * j)) k ≡ rounded (keptControl (F (vertexAt i j)) k) 12
+unfolding refinement exactRefinement
+kept-refined F i j k =
+    let e = even-side i in
+    let f = even-side j in
+    λ t.
+    let kind = kindBy (e .0 t) (f .0 t) in
+    rounded (ruleBy kind (F (beginBy kind (e .1 t) (f .1 t))) (F (endBy kind (e .1 t) (f .1 t))) k) 12
+  where
+    -- an even column or row, halved
+    even-side : (n : ℕ) → (isOdd (2 * n) ≡ false) × (2 * n / 2 ≡ n)
+    even-side n = (le-ltb (2 * (2 * n / 2)) (2 * n) (omega arith), omega arith)
 
 -- ---- the children of a triangle
 

@@ -1,10 +1,12 @@
-// The static library: the calls of document 01 and of document 02, a, for C and Rust, which include/ups.h and
+// The static library: the calls of document 01 and of document 02, a and c, for C and Rust, which include/ups.h and
 // rust/src/raw.rs declare. A slice is a pointer and then a length; 0 is accepted, another number refuses. As in Rust, a
 // slice that is lent to be written overlaps no other.
 use bezier::BezierAnswer;
 use bezier::bezier_net;
 use details::CleanAnswer;
 use details::clean;
+use hermite::GivenAnswer;
+use hermite::from_points;
 use merge::MergeAnswer;
 use merge::merge;
 use net::bad_size;
@@ -51,6 +53,8 @@ ghost use Rattle.details.specs.Cleaning.{cleanedDetails};
 ghost use Rattle.split.specs.Answers.{splitRefusalOf, splitCoarse, splitDetails};
 ghost use Rattle.merge.specs.Merge.{mergedNet};
 ghost use Rattle.merge.specs.Answers.{mergeRefusalOf};
+ghost use Rattle.hermite.specs.HermiteNet.{hermiteNet};
+ghost use Rattle.hermite.specs.Answers.{givenRefusalOf};
 ghost use Rattle.outline.specs.Refusals.{checkFaults, checkRefusal, freeSearch};
 ghost use Rattle.outlined_points.specs.Refusals.{triangleBy, outlinedBezierRefusal};
 ghost use Rattle.outlined_refine.specs.Answers.{faultsOf, outlinedRefusalOf, OutlinedLeft};
@@ -463,5 +467,18 @@ pub extern "C" fn ups_refined_point_outlined(
             0
         }
         PointAnswer::Refused(n) => n,
+    }
+}
+
+// The net through given points into `out`. `given` has p, t1 and t2 of each vertex.
+#[no_mangle]
+pub extern "C" fn ups_from_points(given: &[i32], w: usize, h: usize, out: &mut [i32]) -> u32
+    ensures { λ r. ⌜ r ≡ givenRefusalOf (now (given .entry)) w h (now (out .entry)) ⌝ }
+    ensures { λ r. ⌜ now (out .exit) ≡ outputAfter r (hermiteNet (now (given .entry)) w h) (now (out .entry)) ⌝ }
+{
+    let answer = from_points(given, w, h, out);
+    match answer {
+        GivenAnswer::Done => 0,
+        GivenAnswer::Refused(n) => n,
     }
 }

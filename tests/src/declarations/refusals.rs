@@ -70,26 +70,37 @@ fn in_rust(text: &str) -> Refusals {
     refusals(numbers.collect(), sentences(&code, "=>"))
 }
 
-/// The sentence in quotes after each `mark`, by the word before the mark.
-fn sentences<'a>(code: &'a str, mark: &str) -> Vec<(&'a str, &'a str)> {
+/// The sentence in quotes after each `mark`, by the word before the mark. In Rust a long one stands
+/// between braces.
+fn sentences<'a>(code: &'a str, mark: &str) -> Vec<(&'a str, String)> {
     let mut found = Vec::new();
     for (at, _) in code.match_indices(mark) {
         let name = code[..at].split_whitespace().last().unwrap_or_default();
-        let quoted = code[at + mark.len()..].trim_start().strip_prefix('"');
+        let text = code[at + mark.len()..].trim_start();
+        let text = text.strip_prefix('{').unwrap_or(text).trim_start();
+        let quoted = text.strip_prefix('"');
         if let Some((sentence, _)) = quoted.and_then(|text| text.split_once('"')) {
-            found.push((name, sentence));
+            found.push((name, joined(sentence)));
         }
     }
     found
 }
 
-fn refusals(numbers: Vec<(&str, &str)>, sentences: Vec<(&str, &str)>) -> Refusals {
+/// The lines of a sentence as one: a backslash at the end of a line takes the blanks of the next
+/// one with it.
+fn joined(sentence: &str) -> String {
+    let (first, rest) = sentence.split_once("\\\n").unwrap_or((sentence, ""));
+    let rest = rest.split("\\\n").map(str::trim_start);
+    rest.fold(first.to_owned(), |whole, line| whole + line)
+}
+
+fn refusals(numbers: Vec<(&str, &str)>, sentences: Vec<(&str, String)>) -> Refusals {
     let mut found = Refusals::new();
     for (name, number) in numbers {
         found.entry(plain(name)).or_default().number = number.trim().to_owned();
     }
     for (name, sentence) in sentences {
-        found.entry(plain(name)).or_default().sentence = sentence.to_owned();
+        found.entry(plain(name)).or_default().sentence = sentence;
     }
     found
 }

@@ -1,14 +1,14 @@
-//! Numbers beyond the last vertex of the net, and details beyond it, are neither read nor
-//! changed.
+//! Numbers beyond the last vertex of the net, and details and given points beyond it, are neither
+//! read nor changed.
 
 use ups_tests::call::{Answer, Ask, Call};
-use ups_tests::kernel::{LentDetails, LentNet};
+use ups_tests::kernel::{LentDetails, LentGiven, LentNet};
 use ups_tests::multiresolution::DETAIL_LIMIT;
 use ups_tests::nets::{self, Numbers, NUMBERS};
 use ups_tests::oracle::LIMIT;
 use ups_tests::pages::Side;
 use ups_tests::random::Random;
-use ups_tests::record::{self, RECORD};
+use ups_tests::record::{self, GIVEN_RECORD, RECORD};
 
 /// All calls on the last vertex and in the last cell, and some others.
 fn asks(random: &mut Random, (w, h): (usize, usize)) -> Vec<Ask> {
@@ -157,6 +157,46 @@ fn nothing_outside_the_inputs_of_split_and_merge_is_read() {
             for (coarse, details) in [(&short_coarse, &details), (&coarse, &short_details)] {
                 let answer = coarse.merge(details, size, merge.out_len);
                 assert_eq!(answer, Err(2), "{merge:?}");
+            }
+        }
+    }
+}
+
+/// What lies behind the given points that count, whatever it is, and behind the net in its output,
+/// which is longer. The wrapper asserts that it stays.
+#[test]
+fn junk_beyond_given_points() {
+    let mut random = Random::new(77);
+    for round in 0..60 {
+        let size = nets::random_size(&mut random);
+        let given = nets::random_given(&mut random, size, NUMBERS[round % 4]);
+        let call = Call::new(&given, size, Ask::FromPoints);
+        let answer = call.check();
+        assert_eq!(answer.refusal(), 0, "{call:?}");
+        for extra in [1, GIVEN_RECORD - 1, GIVEN_RECORD, 100] {
+            let mut longer = call.clone();
+            let junk = [0, LIMIT + 1, i32::MIN, i32::MAX];
+            longer.net.extend((0..extra).map(|_| random.pick(&junk)));
+            longer.out_len += random.below(2 * extra);
+            assert_eq!(longer.check(), answer, "{longer:?}");
+        }
+    }
+}
+
+/// The given points next to an inaccessible page, of the exact length and, for a refusal, shorter.
+#[test]
+fn nothing_outside_the_given_points_is_read() {
+    let mut random = Random::new(78);
+    for round in 0..60 {
+        let size = nets::random_size(&mut random);
+        let given = nets::random_given(&mut random, size, NUMBERS[round % 4]);
+        let call = Call::new(&given, size, Ask::FromPoints);
+        for side in [Side::Front, Side::End] {
+            let lent = LentGiven::in_pages(&given, side);
+            assert_eq!(call.of_kernel(&lent), call.of_oracle(), "{call:?}");
+            for len in [given.len() - 1, given.len() / 2, GIVEN_RECORD, 0] {
+                let shorter = LentGiven::in_pages(&given[..len], side);
+                assert_eq!(call.of_kernel(&shorter), Answer::Refused(2), "{call:?}");
             }
         }
     }

@@ -3,8 +3,8 @@
 use std::collections::BTreeSet;
 use std::path::Path;
 use ups_tests::declarations::{
-    differences, Difference, Texts, DETAIL_RECORDS, EXPORTS, FILES, HEADER, MANIFEST, NET_RECORDS,
-    PACKAGE, RAW, README, REFERENCE, REFUSALS, SIZES,
+    differences, Difference, Texts, DETAIL_RECORDS, EXPORTS, FILES, GIVEN_RECORDS, HEADER,
+    MANIFEST, NET_RECORDS, PACKAGE, RAW, README, REFERENCE, REFUSALS, SIZES,
 };
 
 /// Where signatures stand, what is before a function's name there, and where a change is seen: the
@@ -230,7 +230,11 @@ fn a_text_in_which_nothing_is_found_differs() {
 
 #[test]
 fn a_changed_record_is_found() {
-    for (kernel, name) in [(NET_RECORDS, "RECORD"), (DETAIL_RECORDS, "DETAIL_RECORD")] {
+    for (kernel, name) in [
+        (NET_RECORDS, "RECORD"),
+        (DETAIL_RECORDS, "DETAIL_RECORD"),
+        (GIVEN_RECORDS, "GIVEN_RECORD"),
+    ] {
         let in_c = format!("UPS_{name}");
         let found = differences(&changed(kernel, "usize = 3;", "usize = 4;"));
         let names: Vec<&str> = found.iter().map(|found| found.name.as_str()).collect();
@@ -266,6 +270,9 @@ fn a_changed_refusal_is_found() {
         let texts = changed(file, "not a refusal of", "no refusal of");
         expect(&texts, &[REFUSALS], "other numbers", "not a refusal of");
     }
+    // The second line of a sentence.
+    let texts = changed(REFUSALS, " needs\"", " need\"");
+    expect(&texts, &[REFUSALS], "SHORT", "than the size needs`");
     let texts = changed(HEADER, "UPS_EVEN = 10", "UPS_EVEN = 99");
     expect(&texts, &[REFUSALS], "EVEN", "due is 99 ");
     let texts = changed(REFUSALS, "Refusal(10)", "Refusal(99)");

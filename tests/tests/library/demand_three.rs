@@ -1,6 +1,7 @@
 //! Demand 3 by running: points of the refined net keep near the exact spline of the starting
 //! net and between the control values of its triangles.
 
+use ups_tests::hermite;
 use ups_tests::kernel::{LentNet, Number, Room};
 use ups_tests::nets::{self, Numbers, NUMBERS};
 use ups_tests::oracle::{triangles_at, Net, EDGE};
@@ -124,6 +125,20 @@ fn random_nets() {
             assert!(held[count] >= 10, "too few places in {count}: {held:?}");
         }
         assert_eq!(held[0], 0, "{k} steps: a place in no triangle");
+    }
+}
+
+/// A net through given points is one like any other.
+#[test]
+fn nets_through_given_points() {
+    let mut random = Random::new(144);
+    for k in 0..=3 {
+        for round in 0..12 {
+            let size = (2 + random.below(3), 2 + random.below(3));
+            let given = nets::random_given(&mut random, size, NUMBERS[round % 4]);
+            let net = hermite::from_points(&given, size, usize::MAX).expect("accepted");
+            check_places(&net, size, k, &mut random);
+        }
     }
 }
 

@@ -9,6 +9,8 @@ mod declarations;
 mod demand_three;
 mod door_corner;
 mod doors;
+mod from_points;
+mod from_points_refusals;
 mod listing;
 mod merging;
 mod multiresolution_oracle;

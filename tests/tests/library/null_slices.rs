@@ -2,6 +2,7 @@
 //! every export without an outline: both are answered as the lengths demand.
 
 use ups::raw;
+use ups_tests::hermite;
 use ups_tests::lending::{ways, Lend};
 use ups_tests::multiresolution::{self, DETAIL_LIMIT};
 use ups_tests::netfile;
@@ -188,5 +189,17 @@ fn clean() {
             answer,
             multiresolution::clean_faults(details.of(numbers), (w, h), 1),
         )
+    });
+}
+
+#[test]
+fn from_points() {
+    check(SIZE, |(w, h), numbers, [given, out]| {
+        let mut room = [0; ROOM];
+        let ((at, len), (to, to_len)) = (given.input(numbers), out.output(&mut room));
+        // SAFETY: slices, or some of length 0.
+        let answer = unsafe { raw::ups_from_points(at, len, w, h, to, to_len) };
+        let faults = hermite::from_points_faults(given.of(numbers), (w, h), to_len);
+        (answer, faults)
     });
 }

@@ -11,7 +11,7 @@ use ups_tests::record;
 /// Numbers of a net of 2 by 2.
 const NUMBERS: usize = record::numbers((2, 2));
 
-const REFUSALS: [(u32, Refusal, &str); 15] = [
+const REFUSALS: [(u32, Refusal, &str); 16] = [
     (
         1,
         Refusal::SIZE,
@@ -20,7 +20,7 @@ const REFUSALS: [(u32, Refusal, &str); 15] = [
     (
         2,
         Refusal::SHORT,
-        "the net, the details or the outline are shorter than the size needs",
+        "the net, the details, the outline or the given points are shorter than the size needs",
     ),
     (3, Refusal::RANGE, "a number is beyond its range"),
     (
@@ -71,6 +71,11 @@ const REFUSALS: [(u32, Refusal, &str); 15] = [
         Refusal::OFF_DOOR,
         "the place or the triangle is off the door",
     ),
+    (
+        16,
+        Refusal::CONTROL_RANGE,
+        "a control value of the net through the given points is beyond the net range",
+    ),
 ];
 
 #[test]
@@ -93,7 +98,7 @@ fn numbers_and_sentences() {
 #[test]
 fn none_and_others() {
     assert_eq!(Refusal::check(0), Ok(()));
-    for number in [16, 17, 100, u32::MAX] {
+    for number in [17, 18, 100, u32::MAX] {
         let refusal = Refusal::check(number).expect_err("not 0");
         assert_eq!(refusal.number(), number);
         assert_eq!(refusal.to_string(), "not a refusal of this library");
@@ -113,6 +118,8 @@ fn examples() -> Result<(), Refusal> {
     details[0] = 1;
     let merged = Split::new(net(2, 2, LIMIT)?, &details)?.merge();
     let threshold = net(3, 3, 0)?.split()?.clean(DETAIL_LIMIT as u32 + 1);
+    let mut given = [0; record::given((2, 2))];
+    (given[0], given[3]) = (LIMIT, 1);
     let answers = [
         net(1, 2, 0).err(),
         Net::new(2, 2, &[0; NUMBERS - 1]).err(),
@@ -129,6 +136,7 @@ fn examples() -> Result<(), Refusal> {
         Door::new(net(2, 2, 0)?, &[1, 2]).err(),
         Door::new(net(3, 2, 0)?, &[1, 0, 1, 0]).err(),
         Door::new(net(2, 2, 0)?, &[1, 0])?.point(1024, 1024).err(),
+        Net::from_points(2, 2, &given).err(),
     ];
     assert_eq!(answers, REFUSALS.map(|(_, refusal, _)| Some(refusal)));
     Ok(())

@@ -6,6 +6,7 @@ use std::collections::BTreeSet;
 use ups::{Net, Refusal, Split};
 use ups_tests::call::{Answer, Ask, Call, Reading};
 use ups_tests::changes;
+use ups_tests::hermite;
 use ups_tests::multiresolution::{self, DETAIL_LIMIT};
 use ups_tests::netfile::{self, FileNet};
 use ups_tests::nets::{self, Numbers, NUMBERS};
@@ -32,7 +33,7 @@ type Size = (usize, usize);
 /// may have numbers out of range where a call does not look; of a split, 4 has a test of its own.
 type Kind = (fn(&mut Random) -> Call, &'static [u32], &'static [u32]);
 
-const KINDS: [Kind; 14] = [
+const KINDS: [Kind; 15] = [
     (calls::vertex, &[0, 1, 2, 6], &[0, 1, 2, 3, 6]),
     (calls::bezier, &[0, 1, 2, 3, 5, 6], &[0, 1, 2, 3, 6]),
     (calls::surface, &[0, 1, 2, 3, 5, 6], &[0, 1, 2, 3, 6]),
@@ -50,6 +51,7 @@ const KINDS: [Kind; 14] = [
         &[0, 1, 2, 3, 10, 11],
     ),
     (calls::merge, &[0, 1, 2, 3, 4, 5, 11], &[0, 1, 2, 3, 11]),
+    (calls::from_points, &[0, 1, 2, 5, 16], &[0, 1, 2, 16]),
     (
         calls::bezier_outlined,
         &[0, 1, 2, 3, 5, 6, 13, 15],
@@ -114,7 +116,7 @@ fn calls_of_nets() {
 }
 
 /// Every call with these arguments.
-fn wild_asks(a: usize, b: usize) -> [Ask; 10] {
+fn wild_asks(a: usize, b: usize) -> [Ask; 11] {
     [
         Ask::Vertex { i: a, j: b },
         Ask::Bezier {
@@ -138,11 +140,12 @@ fn wild_asks(a: usize, b: usize) -> [Ask; 10] {
         },
         Ask::Split { details_len: 0 },
         Ask::Merge,
+        Ask::FromPoints,
         Ask::Clean { t: a as u32 },
     ]
 }
 
-/// On an empty net and on one of 2 by 2, with empty outputs and no details.
+/// On an empty net and on one of 2 by 2, or given points, with empty outputs and no details.
 #[test]
 fn wild_arguments_to_functions_on_lent_slices() {
     let zeros = vec![0; record::numbers((2, 2))];
@@ -170,8 +173,10 @@ fn wild_arguments_to_nets() {
     let zeros = vec![0; record::numbers((2, 2))];
     for (a, b) in pairs() {
         for net in [&[], &zeros[..]] {
-            let making = Call::new(net, (a, b), Ask::refine((a, b), 0));
-            assert_eq!(making.of_net(), making.of_oracle_net(), "{making:?}");
+            for ask in [Ask::refine((a, b), 0), Ask::FromPoints] {
+                let making = Call::new(net, (a, b), ask);
+                assert_eq!(making.of_net(), making.of_oracle_net(), "{making:?}");
+            }
         }
         // A net has no details to clean.
         let [asks @ .., _] = wild_asks(a, b);
@@ -206,6 +211,35 @@ fn nets_of_short_long_and_spoiled_numbers() {
                 let mut spoiled = long.clone();
                 spoiled[at] = beyond;
                 assert_eq!(new(&spoiled), Err(Refusal::RANGE));
+            }
+        }
+    }
+}
+
+#[test]
+fn nets_through_short_long_and_spoiled_points() {
+    let mut random = Random::new(310);
+    for numbers in NUMBERS {
+        let given = nets::random_given(&mut random, SIZE, numbers);
+        let through = |given: &[i32]| Net::from_points(SIZE.0, SIZE.1, given);
+        let net = through(&given).expect("accepted");
+        assert_eq!((net.width(), net.height()), SIZE);
+        let due = hermite::from_points(&given, SIZE, MAX).expect("accepted");
+        assert_eq!(net.numbers(), due);
+        for (n, vertex) in given.chunks_exact(record::GIVEN_RECORD).enumerate() {
+            let point = net.point(1024 * (n % SIZE.0), 1024 * (n / SIZE.0));
+            assert_eq!(point.as_ref().ok(), vertex.first_chunk());
+        }
+        for len in 0..given.len() {
+            assert_eq!(through(&given[..len]), Err(Refusal::SHORT));
+        }
+        let long = [&given[..], &BEYOND].concat();
+        assert_eq!(through(&long), Ok(net));
+        for at in 0..given.len() {
+            for beyond in [i32::MIN, i32::MAX] {
+                let mut spoiled = long.clone();
+                spoiled[at] = beyond;
+                assert_eq!(through(&spoiled), Err(Refusal::CONTROL_RANGE));
             }
         }
     }

@@ -1,11 +1,13 @@
 //! The size functions of the crate `ups`: they are the oracle's lengths, the library takes exactly
 //! that room and not one number less, and 0 is for what the library refuses by its sizes.
 
-use ups::{coarse_numbers, coarse_side, detail_numbers, file_bytes, file_numbers, net_numbers};
+use ups::{coarse_numbers, coarse_side, detail_numbers, file_bytes, file_numbers};
+use ups::{given_numbers, net_numbers};
 use ups::{lent, Refusal};
 use ups::{refined_numbers, refined_triangles, scratch_numbers, side_after, triangles};
-use ups::{BEZIER, DETAIL_RECORD, FILE_WORDS, POINT, RECORD};
+use ups::{BEZIER, DETAIL_RECORD, FILE_WORDS, GIVEN_RECORD, POINT, RECORD};
 use ups::{EDGE, GREATEST_DEPTH, GREATEST_SIDE, LEAST_SIDE};
+use ups_tests::hermite;
 use ups_tests::multiresolution;
 use ups_tests::netfile::{self, HEIGHT, POINT_WORDS, WIDTH};
 use ups_tests::oracle::{Faults, BEZIER_NUMBERS, POINT_NUMBERS};
@@ -52,6 +54,7 @@ fn expected(len: Option<usize>, faults: &Faults, refusals: &[u32]) -> usize {
 fn records() {
     assert_eq!(RECORD, record::RECORD);
     assert_eq!(DETAIL_RECORD, record::DETAIL_RECORD);
+    assert_eq!(GIVEN_RECORD, record::GIVEN_RECORD);
     assert_eq!((POINT, BEZIER), (POINT_NUMBERS, BEZIER_NUMBERS));
     assert_eq!(FILE_WORDS, 3 * POINT_WORDS);
     assert_eq!((EDGE, LEAST_SIDE), (1024, 2));
@@ -66,6 +69,15 @@ fn of_nets_and_files() {
         assert_eq!(net_numbers(w, h), numbers, "{w} {h}");
         let bytes = expected(netfile::file_len(w, h), &faults, &[1]);
         assert_eq!(file_bytes(w, h), bytes, "{w} {h}");
+    }
+}
+
+#[test]
+fn of_given_points() {
+    for (w, h) in sizes() {
+        let faults = hermite::from_points_faults(&[], (w, h), MAX);
+        let given = expected(hermite::given_len((w, h)), &faults, &[1]);
+        assert_eq!(given_numbers(w, h), given, "{w} {h}");
     }
 }
 
@@ -188,6 +200,8 @@ fn nothing_is_for_refused_sizes_alone() {
         expect_empty(detail_numbers(w, h), &odd, cleaned);
         let merged = lent::merge(&[], &[], w, h, &mut []);
         expect_empty(refined_numbers(w, h, 1), &steps, merged);
+        let through = lent::from_points(&[], w, h, &mut []);
+        expect_empty(given_numbers(w, h), &side, through);
     }
 }
 
@@ -345,6 +359,16 @@ fn room_of_merged_nets() {
         let lens = [net_numbers(w, h), details, refined_numbers(w, h, 1)];
         check_room(lens, [SHORT, SHORT, ROOM], |[coarse, details, out]| {
             lent::merge(&zeros(coarse), &zeros(details), w, h, &mut zeros(out))
+        });
+    }
+}
+
+#[test]
+fn room_of_nets_through_given_points() {
+    for ((w, h), _) in LENT {
+        let lens = [given_numbers(w, h), net_numbers(w, h)];
+        check_room(lens, [SHORT, ROOM], |[given, out]| {
+            lent::from_points(&zeros(given), w, h, &mut zeros(out))
         });
     }
 }

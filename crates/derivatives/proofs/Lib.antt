@@ -1,0 +1,3 @@
+-- The laws of the pieces at a vertex.
+pub mod Shares
+pub mod Vertices
