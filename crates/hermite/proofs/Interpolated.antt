@@ -121,7 +121,7 @@ module _ (given : List ℤ) (w h : ℕ) (out : List ℤ) (e : givenRefusalOf giv
 
     -- ---- derivatives
 
-    -- along ek, where ck is p + t
+    -- along ek, where ck is p + s
     tangent : (x : ℕ) → x < 3 → (t : Triangle) (o : Order) → Meets w h v t o → (k : Index) (s : ℤ) →
         hermiteFields given w x v k ≡ givenP given w x v +ℤ s →
         Expansion (field answer w x) t o v k (pos 36 *ℤ givenP given w x v) (pos 36 *ℤ (pos 2 *ℤ s))

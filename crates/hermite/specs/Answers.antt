@@ -1,5 +1,5 @@
 -- Document 02's number of each case of the answer, and what the call answers and leaves in lent memory.
-use mathlib.Core.Path.{_≡_, refl}
+use mathlib.Core.Path.{_≡_, refl, ap}
 use mathlib.Core.Bool.{Bool, true, false}
 use mathlib.Core.List.{List, [], _∷_}
 use Prim.Native.Nat.{ℕ}
@@ -33,13 +33,28 @@ pub record GivenContract (given : List ℤ) (w h : ℕ) (out : List ℤ) (r : Gi
   pub outAfter : out′ ≡ givenOutput given w h out
 
 -- worked cases: outcomes of answers; and, of given points of 2 by 3 that are the squares, what stands at the end of the
--- net and after it, and refused
+-- net and after it, and refused, in the definitions and in what the contract says
 outcomes : (givenOutcome answer.Done ≡ (0, true)) × (givenOutcome (answer.Refused 16) ≡ (16, false))
 outcomes = (refl, refl)
 
+abbrev ending : List ℤ
+ending = pos 5018 ∷ negsuc 2879 ∷ negsuc 2988 ∷ negsuc 3099 ∷ pos 7 ∷ []
+
 outputs :
-    (drop 50 (givenOutput (squares 54) 2 3 (replicate 55 (pos 7)))
-    ≡ pos 5018 ∷ negsuc 2879 ∷ negsuc 2988 ∷ negsuc 3099 ∷ pos 7 ∷ [])
+    (drop 50 (givenOutput (squares 54) 2 3 (replicate 55 (pos 7))) ≡ ending)
     × (givenOutput (squares 54) 2 3 (replicate 53 (pos 7)) ≡ replicate 53 (pos 7))
 unfolding over netBeyond hermiteNet stored grid runs vectorsAt controlPoint
 outputs = (refl, refl)
+
+abbrev Promised : List ℤ → GivenAnswer → List ℤ → Type 0
+Promised = GivenContract (squares 54) 2 3
+
+promised : (r : GivenAnswer) (out′ : List ℤ) → Promised (replicate 55 (pos 7)) r out′ →
+    (givenOutcome r ≡ (0, true)) × (drop 50 out′ ≡ ending)
+unfolding over netBeyond hermiteNet stored grid runs vectorsAt controlPoint
+promised r out′ c = (c .answer, ap (drop 50) (c .outAfter))
+
+promised-refused : (r : GivenAnswer) (out′ : List ℤ) → Promised (replicate 53 (pos 7)) r out′ →
+    (givenOutcome r ≡ (5, false)) × (out′ ≡ replicate 53 (pos 7))
+unfolding over netBeyond hermiteNet stored grid runs vectorsAt controlPoint
+promised-refused r out′ c = (c .answer, c .outAfter)

@@ -1,7 +1,7 @@
 -- Document 02 c, beside document 01's "Turned away": the rows of the call, in the order 1, 2, 5, 16.
 use mathlib.Core.Path.{_≡_, refl}
 use mathlib.Core.Bool.{Bool, false}
-use mathlib.Core.List.{List, [], _∷_}
+use mathlib.Core.List.{List, [], _∷_, _++_}
 use Prim.Native.Nat.{ℕ, _≤_}
 use lib.Dec.{ltb}
 use lib.IntN.{ℤ, pos, negsuc}
@@ -40,30 +40,37 @@ pub record Fitting (given : List ℤ) (w h : ℕ) : Type 0 where
 
 -- ---- worked cases
 
--- every fault at once, and then without the one that was found, to none
+-- every fault at once, with either side, and then without the one that was found, to none
 order :
     (givenRefusal tooFew 1026 2 0 ≡ 1)
+    × (givenRefusal tooFew 2 1 0 ≡ 1)
     × (givenRefusal tooFew 2 2 0 ≡ 2)
     × (givenRefusal (tooLarge 0) 2 2 35 ≡ 5)
     × (givenRefusal (tooLarge 0) 2 2 36 ≡ 16)
     × (givenRefusal zeros 2 2 36 ≡ 0)
 unfolding netBeyond hermiteNet stored grid runs vectorsAt controlPoint
-order = (refl, refl, refl, refl, refl)
+order = (refl, refl, refl, refl, refl, refl)
 
--- 2 by 3 needs 54 numbers; at the last vertex, z of t1 takes c1 and c3 to the ends of the range and past them, z of p
--- and t2 c2 alone and c3 alone; at the first, c1 and c2 are 0 and c3 is 4,294,967,295, which 32 bits would make -1
+-- 2 by 3 needs 54 numbers, and one after them does not matter; at the last vertex, z of t1 takes c1 and c3 to the ends
+-- of the range and past them, also of 3 by 2, and z of p and t2 c2 alone and c3 alone; at the first, c1 and c2 are 0
+-- and c3 is 4,294,967,295, which 32 bits would make -1
 abbrev nothing : List ℤ
 nothing = replicate 54 (pos 0)
 
-lengths : (givenRefusal nothing 2 3 54 ≡ 0) × (givenRefusal (replicate 53 (pos 0)) 2 3 54 ≡ 2) × (givenRefusal nothing 2 3 53 ≡ 5)
+lengths :
+    (givenRefusal nothing 2 3 54 ≡ 0)
+    × (givenRefusal (replicate 53 (pos 0)) 2 3 54 ≡ 2)
+    × (givenRefusal nothing 2 3 53 ≡ 5)
+    × (givenRefusal (nothing ++ pos 16777217 ∷ []) 2 3 54 ≡ 0)
 unfolding netBeyond hermiteNet stored grid runs vectorsAt controlPoint
-lengths = (refl, refl, refl)
+lengths = (refl, refl, refl, refl)
 
 ranges :
     (givenRefusal (set nothing 50 (negsuc 16777215)) 2 3 54 ≡ 0)
     × (givenRefusal (set nothing 50 (negsuc 16777216)) 2 3 54 ≡ 16)
+    × (givenRefusal (set nothing 50 (negsuc 16777216)) 3 2 54 ≡ 16)
     × (givenRefusal (set (set nothing 47 (pos 16777216)) 53 (pos 1)) 2 3 54 ≡ 16)
     × (givenRefusal (set (set nothing 47 (negsuc 0)) 53 (pos 16777216)) 2 3 54 ≡ 16)
     × (givenRefusal (set (set (set nothing 0 (pos 1431655765)) 3 (negsuc 1431655764)) 6 (negsuc 1431655764)) 2 3 54 ≡ 16)
 unfolding netBeyond hermiteNet stored grid runs vectorsAt controlPoint
-ranges = (refl, refl, refl, refl, refl)
+ranges = (refl, refl, refl, refl, refl, refl)

@@ -27,9 +27,15 @@ threeOf c = map (number c) (0 ∷ 1 ∷ 2 ∷ [])
 abbrev pub nineOf : List (List ℤ) → List (List ℤ)
 nineOf c = threeOf (getD c 0 []) ∷ threeOf (getD c 1 []) ∷ threeOf (getD c 2 []) ∷ []
 
--- worked case: of p = 1, 2, 3, t1 = 10, 20, 30 and t2 = 100, 200, 400
+-- worked cases: of p = 1, 2, 3, t1 = 10, 20, 30 and t2 = 100, 200, 400; and nine numbers stay as they are
 of-numbers :
     sumTriangle ((pos 1 ∷ pos 2 ∷ pos 3 ∷ []) ∷ (pos 10 ∷ pos 20 ∷ pos 30 ∷ []) ∷ (pos 100 ∷ pos 200 ∷ pos 400 ∷ []) ∷ [])
     ≡ (pos 11 ∷ pos 22 ∷ pos 33 ∷ []) ∷ (pos 101 ∷ pos 202 ∷ pos 403 ∷ [])
     ∷ (negsuc 108 ∷ negsuc 217 ∷ negsuc 426 ∷ []) ∷ []
 of-numbers = refl
+
+abbrev digits : List (List ℤ)
+digits = (pos 1 ∷ pos 2 ∷ pos 3 ∷ []) ∷ (pos 4 ∷ pos 5 ∷ pos 6 ∷ []) ∷ (pos 7 ∷ pos 8 ∷ pos 9 ∷ []) ∷ []
+
+as-they-are : nineOf digits ≡ digits
+as-they-are = refl
