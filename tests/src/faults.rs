@@ -171,6 +171,18 @@ pub fn output_faults(ask: Ask) -> Vec<Fault> {
     faults
 }
 
+/// Numbers at the ends of a range and beyond it, each with its refusal: 0 where it is in the range.
+pub fn at_limits(limit: i32, refusal: u32) -> [(i32, u32); 6] {
+    [
+        (limit, 0),
+        (-limit, 0),
+        (limit + 1, refusal),
+        (-limit - 1, refusal),
+        (i32::MAX, refusal),
+        (i32::MIN, refusal),
+    ]
+}
+
 pub fn number_faults() -> Vec<Fault> {
     vec![|c| c.net[0] = LIMIT + 1, |c| c.net[0] = i32::MIN, |c| {
         c.net.fill(i32::MAX)

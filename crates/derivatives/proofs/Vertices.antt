@@ -1,5 +1,5 @@
--- The pieces that meet a vertex are those of the exact spline; their value and their derivatives there, from the controls
--- of the vertex alone; and that each vertex has one.
+-- The pieces that meet a vertex are those of the exact spline; their value and their derivatives there, from the
+-- controls of the vertex alone; and that each vertex has one.
 use mathlib.Core.Path.{_≡_, refl, sym, subst, _∙_}
 use mathlib.Core.Bool.{Bool, true, false, cond}
 use mathlib.Core.List.{List, [], _∷_}

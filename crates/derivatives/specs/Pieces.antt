@@ -34,8 +34,8 @@ signedQuadratic down c P Q A B G =
     +ℤ pos 2 *ℤ (B *ℤ G) *ℤ pointM down c P Q
     +ℤ G *ℤ G *ℤ pointZ down c
 
--- the piece in triangle t and order o of the shares, at place (p, q) of edge count D, times 36·D²: with the shares a, b
--- and d of P, Q and T, A = a - b, B = 2(b - d), G = 3d
+-- the piece in triangle t and order o of the shares, at place (p, q) of edge count D, times 36·D²: with the shares
+-- a, b and d of P, Q and T, A = a - b, B = 2(b - d), G = 3d
 unfoldable pub piece : Field → Triangle → Order → ℤ → ℤ → ℤ → ℤ
 piece F t o D p q =
     (let a = signedShares t D p q (cornerP o) in
@@ -54,9 +54,9 @@ abbrev pub pieceAlong : Field → Triangle → Order → Vertex → Index → �
 pieceAlong F t o v k D d =
     piece F t o D (D *ℤ pos (v .column) +ℤ d *ℤ stepColumn k) (D *ℤ pos (v .row) +ℤ d *ℤ stepRow k)
 
--- 36 times the piece, as a polynomial in the distance d/D from V along ek, begins with a + b·d/D. The third coefficient
--- is whole and free of d and D. A quadratic has this expansion and no other (`expansion-once`): a is 36 times its value
--- at V, and b 36 times its derivative there.
+-- 36 times the piece, as a polynomial in the distance d/D from V along ek, begins with a + b·d/D. The third
+-- coefficient is whole and free of d and D. A quadratic has this expansion and no other (`expansion-once`): a is 36
+-- times its value at V, and b 36 times its derivative there.
 pub record Expansion (F : Field) (t : Triangle) (o : Order) (v : Vertex) (k : Index) (a b : ℤ) : Type 0 where
   pub second : ℤ
   pub expanded : (D d : ℤ) → pieceAlong F t o v k D d ≡ a *ℤ (D *ℤ D) +ℤ b *ℤ (D *ℤ d) +ℤ second *ℤ (d *ℤ d)

@@ -1,5 +1,5 @@
--- The controls p + t1, p + t2 and p - t1 - t2 in one coordinate: their sum is 3p, the point after one refinement is p, and
--- no other controls have this point and these derivatives. Of rounding only that it is nearest is used.
+-- The controls p + t1, p + t2 and p - t1 - t2 in one coordinate: their sum is 3p, the point after one refinement is p,
+-- and no other controls have this point and these derivatives. Of rounding only that it is nearest is used.
 use mathlib.Core.Path.{_≡_, refl}
 use mathlib.Core.List.{[], _∷_}
 use Prim.Native.Nat.{ℕ, _+_, _*_, _≤_}

@@ -1,4 +1,4 @@
--- Numbers beyond those of the vertices do not matter: the refusal and the net are those of the given points cut after them.
+-- Numbers beyond those of the vertices do not matter: the refusal and the net are those of the given points cut there.
 use mathlib.Core.Path.{_≡_, sym}
 use mathlib.Core.List.{List, [], _∷_}
 use Prim.Native.Nat.{ℕ, _+_, _*_, _≤_, _<_}

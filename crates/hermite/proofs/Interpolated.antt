@@ -1,5 +1,5 @@
--- What the net through given points has of them: it is accepted, its points and derivatives at the vertices are the given
--- ones, the points also after one refinement, and no other net has them.
+-- What the net through given points has of them: it is accepted, its points and derivatives at the vertices are the
+-- given ones, the points also after one refinement, and no other net has them.
 use mathlib.Core.Path.{_≡_, refl, sym, ap, subst, _∙_}
 use mathlib.Core.Bool.{false}
 use mathlib.Core.List.{List, [], _∷_, _++_}

@@ -46,7 +46,8 @@ fn difference_point(p: [i32; 3], a: [i32; 3], b: [i32; 3]) -> [i64; 3]
     [x, y, z]
 }
 
-// c1 = p + t1, c2 = p + t2, c3 = p - t1 - t2 of vertex n, counted from 0.
+// c1 = p + t1, c2 = p + t2, c3 = p - t1 - t2 of vertex n, counted from 0. For the loops of `nets.rt`, which stay below
+// the count of vertices.
 pub fn controls_at(given: &[i32], n: usize) -> [[i64; 3]; 3]
     requires { ⌜ givenStride * n + givenStride ≤ length (now given) ⌝ }
     ensures { λ r. ⌜ r ≡ sumTriangle (vectorsAt (now (given .entry)) (givenStride * n)) ⌝ }
@@ -99,7 +100,7 @@ fn narrow_point(c: [i64; 3]) -> [i32; 3]
     [x, y, z]
 }
 
-// A control triangle in 32 bits.
+// A control triangle in 32 bits. For `store_hermite`, whose triangles have passed `hermite_beyond`.
 pub fn narrow_triangle(c: [[i64; 3]; 3]) -> [[i32; 3]; 3]
     requires { ⌜ controlsBeyond (nineOf c) ≡ false ⌝ }
     ensures { λ r. ⌜ r ≡ nineOf c ⌝ }

@@ -14,7 +14,7 @@ ghost use Rattle.hermite.specs.HermiteNet.{hermiteNet};
 ghost use Rattle.hermite.specs.Refusals.{hermiteBeyond, Enough, Fitting};
 
 // Whether a control value of the net is outside the net range. Nothing is written yet, so each control triangle is
-// worked out here and dropped.
+// worked out here and dropped. For `given_refusal`, once 1 and 2 are ruled out.
 pub fn hermite_beyond(given: &[i32], w: usize, h: usize) -> bool
     requires { ⌜ Enough (now given) w h ⌝ }
     ensures { λ r. ⌜ r ≡ hermiteBeyond (now (given .entry)) w h ⌝ }
@@ -30,7 +30,7 @@ pub fn hermite_beyond(given: &[i32], w: usize, h: usize) -> bool
     false
 }
 
-// The net over the front of `out`.
+// The net over the front of `out`. For `from_points`, where nothing is refused.
 pub fn store_hermite(given: &[i32], w: usize, h: usize, out: &mut [i32])
     requires { ⌜ Fitting (now given) w h × (numbers w h ≤ length (now out)) ⌝ }
     ensures { λ r. ⌜ now (out .exit) ≡ over (hermiteNet (now (given .entry)) w h) (now (out .entry)) ⌝ }

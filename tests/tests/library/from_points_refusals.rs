@@ -2,7 +2,7 @@
 //! wrappers assert that it changes nothing.
 
 use ups_tests::call::{Ask, Call};
-use ups_tests::faults::{control_faults, net_faults, output_faults, size_faults};
+use ups_tests::faults::{at_limits, control_faults, net_faults, output_faults, size_faults};
 use ups_tests::nets::{self, Numbers, NUMBERS};
 use ups_tests::oracle::LIMIT;
 use ups_tests::order::{self, Group};
@@ -121,14 +121,7 @@ fn sixteen_each_control_value() {
 #[test]
 fn sixteen_each_given_number() {
     for position in 0..record::given(SIZE) {
-        for (value, refusal) in [
-            (LIMIT, 0),
-            (-LIMIT, 0),
-            (LIMIT + 1, 16),
-            (-LIMIT - 1, 16),
-            (i32::MAX, 16),
-            (i32::MIN, 16),
-        ] {
+        for (value, refusal) in at_limits(LIMIT, 16) {
             let mut given = vec![0; record::given(SIZE)];
             given[position] = value;
             Call::new(&given, SIZE, Ask::FromPoints).expect(refusal);

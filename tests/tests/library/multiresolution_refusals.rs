@@ -2,6 +2,7 @@
 //! changes nothing.
 
 use ups_tests::call::{Ask, Call};
+use ups_tests::faults::at_limits;
 use ups_tests::multiresolution::{kept, merged_details_len, DETAIL_LIMIT};
 use ups_tests::nets::{self, Numbers};
 use ups_tests::oracle::LIMIT;
@@ -165,14 +166,7 @@ fn expect_range(call: &Call, numbers: fn(&mut Call) -> &mut Vec<i32>, limit: i32
     let mut call = call.clone();
     for position in 0..numbers(&mut call).len() {
         let before = numbers(&mut call)[position];
-        for (value, refusal) in [
-            (limit, 0),
-            (-limit, 0),
-            (limit + 1, 3),
-            (-limit - 1, 3),
-            (i32::MAX, 3),
-            (i32::MIN, 3),
-        ] {
+        for (value, refusal) in at_limits(limit, 3) {
             if before.abs() < limit || refusal == 3 || value == before {
                 numbers(&mut call)[position] = value;
                 call.expect(refusal);
