@@ -39,8 +39,8 @@ DUE = {
 
 # the most lines of a file
 MOST = {
-    "README.md": 130,
-    "docs/REFERENCE.md": 255,
+    "README.md": 133,
+    "docs/REFERENCE.md": 262,
     "examples/door.c": 80,
     "examples/point.c": 10,
     "rust/examples/point.rs": 10,

@@ -260,7 +260,9 @@ fn descending(shares: [usize; 3]) -> (usize, usize, usize) {
     }
 }
 
-/// The nearest whole number, halves upwards; the divisor is even.
+/// The nearest whole number, halves away from zero (request d); the divisor is even.
 pub fn rounded(dividend: i64, divisor: i64) -> i64 {
-    (dividend + divisor / 2).div_euclid(divisor)
+    let half = divisor / 2;
+    let away = if dividend < 0 { -half } else { half };
+    (dividend + away) / divisor
 }

@@ -73,7 +73,8 @@ fn coarse_net(net: &[Triangle], w: usize) -> impl Iterator<Item = Triangle> + '_
 }
 
 /// The coarse control triangle from that of a kept vertex. 5ck minus the other two is 6ck minus
-/// all three, so one quotient for each coordinate will do.
+/// all three, so one quotient for each coordinate will do. Thirds are never halves: a third more,
+/// rounded down, is the nearest.
 fn unrefined(c: &Triangle) -> Triangle {
     let thirds: Control = array::from_fn(|x| (1 - c[0][x] - c[1][x] - c[2][x]).div_euclid(3));
     array::from_fn(|k| array::from_fn(|x| 2 * c[k][x] + thirds[x]))

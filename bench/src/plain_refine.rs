@@ -138,18 +138,25 @@ fn odd_row(low: &[Triangle], high: &[Triangle], out: &mut [Triangle]) {
 
 // Sums are at most 6 times 2^24 in size, so `i32` will do.
 
+/// A sum plus half of its divisor, and one less where the sum is below zero: rounded down, the
+/// quotient is the nearest, halves away from zero. Without a branch the compiler forms several at
+/// once.
+fn plus_half(sum: i32, half: i32) -> i32 {
+    let below_zero = sum >> (i32::BITS - 1);
+    sum + half + below_zero
+}
+
 fn kept(c: &Triangle) -> Triangle {
-    array::from_fn(|k| {
-        array::from_fn(|x| (3 * c[k][x] + c[0][x] + c[1][x] + c[2][x] + 3).div_euclid(6))
-    })
+    let sixfold = |k: usize, x: usize| 3 * c[k][x] + c[0][x] + c[1][x] + c[2][x];
+    array::from_fn(|k| array::from_fn(|x| plus_half(sixfold(k, x), 3).div_euclid(6)))
 }
 
 /// The vertex that halves the edge from A to A + ek; k counts from 0.
 fn halving<const K: usize>(a: &Triangle, b: &Triangle) -> Triangle {
     let (l, m) = ((K + 1) % 3, (K + 2) % 3);
-    let beside = |c: usize| array::from_fn(|x| (2 * a[K][x] + a[c][x] + b[c][x] + 2) >> 2);
+    let beside = |c: usize| array::from_fn(|x| plus_half(2 * a[K][x] + a[c][x] + b[c][x], 2) >> 2);
     let mut new = Triangle::default();
-    new[K] = array::from_fn(|x| (b[l][x] + b[m][x] + 1) >> 1);
+    new[K] = array::from_fn(|x| plus_half(b[l][x] + b[m][x], 1) >> 1);
     new[l] = beside(l);
     new[m] = beside(m);
     new

@@ -48,7 +48,7 @@ pub fn bezier_net(
 }
 
 /// x, y, z of the surface point at place (p, q) into [`POINT`] numbers of `out`, each coordinate
-/// rounded once to the nearest whole number, halves upwards.
+/// rounded once to the nearest whole number, halves away from zero (document 02, d).
 ///
 /// # Errors
 ///

@@ -11,7 +11,7 @@ use crate::nets::{self, Numbers};
 use crate::oracle::{self, Faults, POINT_NUMBERS};
 use crate::random::Random;
 use crate::refinement;
-pub use outlined::{outlined_asks, Outlined};
+pub use outlined::{bezier_asks, outlined_asks, Outlined};
 use std::fmt;
 
 #[derive(Clone, Copy, Debug, PartialEq, Eq)]

@@ -21,16 +21,19 @@ pub fn door_corner(z: i32) -> Vec<i32> {
 
 #[derive(Clone, Copy, Debug)]
 pub enum Numbers {
+    /// From -3 to 3, so that many exact values are halves.
+    Tiny,
     /// From -50 to 50.
     Small,
     /// Any in range.
     Large,
     /// The two ends of the range.
     Extreme,
-    /// Each number one of the three.
+    /// Each number small, large or extreme.
     Mixed,
 }
 
+/// All but the tiny ones.
 pub const NUMBERS: [Numbers; 4] = [
     Numbers::Small,
     Numbers::Large,
@@ -40,6 +43,7 @@ pub const NUMBERS: [Numbers; 4] = [
 
 pub fn random_number(random: &mut Random, numbers: Numbers) -> i32 {
     match numbers {
+        Numbers::Tiny => random.between(-3, 3),
         Numbers::Small => random.between(-50, 50),
         Numbers::Large => random.between(-LIMIT, LIMIT),
         Numbers::Extreme => random.pick(&[-LIMIT, LIMIT]),

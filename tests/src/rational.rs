@@ -33,6 +33,22 @@ fn gcd(a: u128, b: u128) -> u128 {
     a
 }
 
+/// The whole number nearest to a fraction with a positive denominator, halves away from zero
+/// (request d): the whole part of its size plus a half, with the sign put back. All of the oracle's
+/// rounding is here.
+pub fn nearest(numerator: i128, denominator: i128) -> i128 {
+    let size = times(numerator, numerator.signum());
+    let halves = plus(times(2, size), denominator);
+    times(halves / times(2, denominator), numerator.signum())
+}
+
+/// Whether r is what n/d is rounded to, without a division: no whole number is nearer, and where
+/// another is as near, that one is nearer to zero.
+pub fn is_nearest(r: i128, n: i128, d: i128) -> bool {
+    let twice = 2 * (r * d - n).abs();
+    twice < d || twice == d && r.abs() * d > n.abs()
+}
+
 impl Rational {
     pub const ZERO: Rational = Rational {
         numerator: 0,
@@ -69,19 +85,9 @@ impl Rational {
         self.denominator
     }
 
-    /// The greatest whole number not above the value.
-    pub fn floor(self) -> i128 {
-        let cut = self.numerator / self.denominator;
-        if self.numerator % self.denominator < 0 {
-            cut - 1
-        } else {
-            cut
-        }
-    }
-
-    /// The nearest whole number, halves upwards.
+    /// The nearest whole number, halves away from zero.
     pub fn rounded(self) -> i128 {
-        (self + Rational::new(1, 2)).floor()
+        nearest(self.numerator, self.denominator)
     }
 }
 

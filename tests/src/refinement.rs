@@ -72,21 +72,23 @@ fn halving(net: &Net, at: Vertex) -> [Point; 3] {
     })
 }
 
+/// The control triangles of the net after one step, row by row, not rounded.
+pub fn exact_step<'a>(net: &'a Net<'a>) -> impl Iterator<Item = [Point; 3]> + 'a {
+    let (w, h) = refined_size((net.w, net.h), 1).expect("a size");
+    let vertices = (0..h as i128).flat_map(move |j| (0..w as i128).map(move |i| (i, j)));
+    vertices.map(|at| match even(at) {
+        true => kept(net, at),
+        false => halving(net, at),
+    })
+}
+
 /// The numbers of the net after one step.
 pub(crate) fn one_step(net: &Net) -> Vec<i32> {
     let (w, h) = refined_size((net.w, net.h), 1).expect("a size");
     let mut numbers = Vec::with_capacity(record::numbers((w, h)));
-    for j in 0..h as i128 {
-        for i in 0..w as i128 {
-            let at = (i, j);
-            let triangle = if even(at) {
-                kept(net, at)
-            } else {
-                halving(net, at)
-            };
-            let controls: [Control; 3] = triangle.map(oracle::rounded);
-            numbers.extend(controls.as_flattened());
-        }
+    for triangle in exact_step(net) {
+        let controls: [Control; 3] = triangle.map(oracle::rounded);
+        numbers.extend(controls.as_flattened());
     }
     numbers
 }

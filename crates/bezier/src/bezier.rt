@@ -116,6 +116,7 @@ fn bezier_refusal(
 }
 
 // The 19 points of the up or the down triangle of cell (i, j) times 36, in 57 numbers over the front of `out`.
+// Mirror images: `MirroredBezier` in `crates/mirror/specs/Promises.antt`.
 pub fn bezier_net(
     net: &[i32],
     w: usize,

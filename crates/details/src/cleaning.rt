@@ -71,6 +71,7 @@ fn clean_refusal(details: &[i32], w: usize, h: usize, t: u32) -> u32
 }
 
 // Each detail of size below t becomes 0, in place; or the first of 1, 10, 12, 2, 3.
+// Mirror images: `MirroredCleaning` in `crates/mirror/specs/Promises.antt`.
 pub fn clean(details: &mut [i32], w: usize, h: usize, t: u32) -> CleanAnswer
     ensures { λ r. ⌜ cleanOutcome r ≡ cleanAnswer (now (details .entry)) w h t ⌝ }
     ensures { λ r. ⌜ now (details .exit) ≡ cleanOutput (now (details .entry)) w h t ⌝ }

@@ -80,7 +80,8 @@ cases =
     ∷ (zAt (pos 120) 0 512 ∷ [], pos 30 ∷ [])
     ∷ ((pos 2 *ℤ exactAt (pos 120) 256 256) ∷ [], (pos 95 *ℤ pos 37748736) ∷ [])
     ∷ (zAt (pos 120) 256 256 ∷ [], pos 48 ∷ [])
-    ∷ (zAt low 256 256 ∷ [], negsuc 46 ∷ [])
+    -- 'The case -47 becomes -48', document 02 d
+    ∷ (zAt low 256 256 ∷ [], negsuc 47 ∷ [])
     ∷ (refinedZ (pos 120) 0 0, expected (80 ∷ 20 ∷ 20 ∷ []))
     ∷ (refinedZ (pos 120) 1 0, expected (0 ∷ 60 ∷ 60 ∷ []))
     ∷ (refinedZ (pos 120) 0 1, expected (30 ∷ 0 ∷ 60 ∷ []))

@@ -49,6 +49,9 @@ neg-times a b =
           (n .1),
     )
 
+pub times-neg : (a b : ℤ) → a *ℤ negℤ b ≡ negℤ (a *ℤ b)
+times-neg a b = *ℤ-comm a (negℤ b) ∙ neg-times b a ∙ ap negℤ (*ℤ-comm b a)
+
 pub *ℤ-assoc : (a b c : ℤ) → (a *ℤ b) *ℤ c ≡ a *ℤ (b *ℤ c)
 *ℤ-assoc a b c =
     omega (

@@ -3,12 +3,12 @@
 use mathlib.Core.Path.{_≡_, refl}
 use mathlib.Core.Logic.{_⊎_, inl, inr}
 use Prim.Native.Nat.{ℕ, suc, _+_, _*_, _≤_, _<_}
-use native.Mathlib.Nat.{mul-le-mul-left, mul-lt-mul-of-pos-left, le-of-mul-le-mul-left, lt-of-mul-lt-mul-left}
+use native.Mathlib.Nat.{mul-le-mul-left, le-of-mul-le-mul-left, lt-of-mul-lt-mul-left}
 use native.Mathlib.Decide.{decLe}
 use native.Mathlib.Omega.{arith}
 use lib.IntN.{ℤ, pos, negsuc, negℤ, natAbs, _+ℤ_, _-ℤ_, _*ℤ_}
 use lib.Signed.{_≤ℤ_, _<ℤ_}
-use Rattle.exact.proofs.Parts.{integers, posPart, negPart, sum-parts, difference-parts, product-parts, negation-parts, size-parts, le-parts, lt-parts, parts-le, parts-lt}
+use Rattle.exact.proofs.Parts.{integers, posPart, negPart, sum-parts, difference-parts, product-parts, negation-parts, size-parts, le-parts, parts-le, parts-lt}
 
 -- ---- order
 
@@ -58,10 +58,6 @@ pub *ℤ-mono : {a b : ℤ} (c : ℤ) → pos 0 ≤ℤ c → a ≤ℤ b → (c *
     vanish : (c : ℤ) → pos 0 ≤ℤ c → (m : ℕ) → negPart c * m ≡ 0
     vanish (pos n) p m = omega arith
     vanish (negsuc n) p m = absurd (p .le)
-
-pub *ℤ-mono-< : {a b : ℤ} (n : ℕ) → 0 < n → a <ℤ b → (pos n *ℤ a) <ℤ (pos n *ℤ b)
-*ℤ-mono-< {a} {b} n p h =
-    omega (integers, product-parts (pos n) a, product-parts (pos n) b, mul-lt-mul-of-pos-left (lt-parts h) p)
 
 pub *ℤ-cancel-≤ : {a b : ℤ} (n : ℕ) → 0 < n → (pos n *ℤ a) ≤ℤ (pos n *ℤ b) → a ≤ℤ b
 *ℤ-cancel-≤ {a} {b} n p h =

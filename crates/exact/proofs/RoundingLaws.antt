@@ -1,39 +1,20 @@
--- The laws of `rounded`: nearest, range, whole quotient, scale, monotone. Proofs above cite these and do not unfold
--- `rounded`. No other law is stated: these hold whichever way halves go. Range and whole quotient follow from nearest.
-use mathlib.Core.Path.{_≡_, refl, subst, subst₂}
+-- The laws of `rounded`: odd, nearest, range, whole quotient, scale, monotone. Proofs above cite these and do not unfold
+-- `rounded`. Odd is for mirror images alone (document 02 d); the others hold whichever way halves go. Range and whole
+-- quotient follow from nearest.
+use mathlib.Core.Path.{_≡_, refl, sym, _∙_, ap, subst}
 use mathlib.Core.List.{List, [], _∷_, Forall₂}
-use Prim.Native.Nat.{ℕ, suc, _*_, _/_, _<_, _≤_}
-use native.Mathlib.Nat.{mul-div-le, lt-mul-div-succ, mul-pos}
+use Prim.Native.Nat.{ℕ, zero, suc, _+_, _*_, _/_, _<_, _≤_}
+use native.Mathlib.Nat.{mul-div-le, div-mul-le-self, lt-mul-div-succ, le-div-iff-mul-le, mul-div-mul-left, div-eq-of-lt, mul-pos}
 use native.Mathlib.Omega.{arith}
-use lib.IntN.{ℤ, pos, negsuc, natAbs, negℤ, _+ℤ_, _-ℤ_, _*ℤ_, *ℤ-comm}
-use lib.Signed.{_≤ℤ_, _<ℤ_, leZ-yes, ≤ℤ-refl}
+use lib.IntN.{ℤ, pos, negsuc, natAbs, negℤ, negℤ-negℤ, _+ℤ_, _-ℤ_, _*ℤ_, *ℤ-comm}
+use lib.Signed.{_≤ℤ_, _<ℤ_, ≤ℤ-refl}
 use Rattle.exact.specs.Rounding.{floorQuotient, rounded}
 use Rattle.exact.specs.WeightedSum.{weightedSum, total}
 use Rattle.exact.proofs.Parts.{integers, sum-parts, difference-parts, negation-parts, size-parts, parts-le}
-use Rattle.exact.proofs.Integers.{*ℤ-assoc, neg-times}
-use Rattle.exact.proofs.Order.{size-between, ≤ℤ-trans, ≤ℤ-antisym, ≤ℤ-<ℤ-trans, +ℤ-mono, *ℤ-mono, *ℤ-mono-<, *ℤ-cancel-<}
+use Rattle.exact.proofs.Integers.{neg-times, times-neg}
+use Rattle.exact.proofs.Order.{size-between, ≤ℤ-antisym, negℤ-anti, *ℤ-cancel-<}
 use Rattle.exact.proofs.Expressions.{var, lit, _⊕_, _⊗_, identity}
-use Rattle.exact.proofs.Linear.{expression-parts}
 use Rattle.exact.proofs.WeightedSumLaws.{InRange, sum-range}
-
--- ---- the floor: d times it is at most n, and d more is above n
-
-floor-low : (n : ℤ) (d : ℕ) → 0 < d → (pos d *ℤ floorQuotient n d) ≤ℤ n
-unfolding floorQuotient
-floor-low (pos a) d p = omega (integers, mul-div-le a d)
-floor-low (negsuc a) d p = omega (integers, negation-parts (pos (d * suc (a / d))), lt-mul-div-succ a p)
-
-floor-high : (n : ℤ) (d : ℕ) → 0 < d → n <ℤ (pos d *ℤ floorQuotient n d +ℤ pos d)
-unfolding floorQuotient
-floor-high (pos a) d p = omega (integers, lt-mul-div-succ a p)
-floor-high (negsuc a) d p =
-    omega (
-      integers,
-      sum-parts (pos d *ℤ negsuc (a / d)) (pos d),
-      negation-parts
-          (pos (d * suc (a / d))),
-      mul-div-le a d,
-    )
 
 -- a multiple of d that is less than d above another is at most that one
 at-most : {x y : ℤ} (d : ℕ) → (pos d *ℤ x) <ℤ (pos d *ℤ y +ℤ pos d) → x ≤ℤ y
@@ -42,45 +23,46 @@ at-most {x} {y} d h =
     let k : x <ℤ (y +ℤ pos 1) = *ℤ-cancel-< d (subst (λ (z : ℤ). (pos d *ℤ x) <ℤ z) next h) in
     omega (integers, sum-parts y (pos 1))
 
-floor-unique : {n q : ℤ} (d : ℕ) → 0 < d → (pos d *ℤ q) ≤ℤ n → n <ℤ (pos d *ℤ q +ℤ pos d) → floorQuotient n d ≡ q
-floor-unique {n} {q} d p l h =
-    ≤ℤ-antisym (at-most d (≤ℤ-<ℤ-trans (floor-low n d p) h)) (at-most d (≤ℤ-<ℤ-trans l (floor-high n d p)))
-
-floor-monotone : {m n : ℤ} (d : ℕ) → 0 < d → m ≤ℤ n → floorQuotient m d ≤ℤ floorQuotient n d
-floor-monotone {m} {n} d p h = at-most d (≤ℤ-<ℤ-trans (≤ℤ-trans (floor-low m d p) h) (floor-high n d p))
-
--- ---- rounding, between its two limits
-
 double : {d : ℕ} → 0 < d → 0 < 2 * d
 double p = omega arith
 
-rounded-low : (n : ℤ) (d : ℕ) → 0 < d → (pos 2 *ℤ (pos d *ℤ rounded n d)) ≤ℤ (pos 2 *ℤ n +ℤ pos d)
-unfolding rounded
-rounded-low n d p =
-    subst (λ (z : ℤ). z ≤ℤ (pos 2 *ℤ n +ℤ pos d)) (*ℤ-assoc (pos 2) (pos d) (rounded n d))
-    (floor-low (pos 2 *ℤ n +ℤ pos d) (2 * d) (double p))
+-- odd: the sign of a number is the sign of what it is rounded to
+pub rounded-odd : (n : ℤ) (d : ℕ) → 0 < d → rounded (negℤ n) d ≡ negℤ (rounded n d)
+unfolding rounded floorQuotient
+rounded-odd (pos zero) d p =
+    let none : (2 * 0 + d) / (2 * d) ≡ 0 = div-eq-of-lt (omega arith) in
+    ap pos none ∙ sym (ap (λ (q : ℕ). negℤ (pos q)) none)
+rounded-odd (pos (suc a)) d p = refl
+rounded-odd (negsuc a) d p = sym (negℤ-negℤ (pos ((2 * suc a + d) / (2 * d))))
 
-rounded-high : (n : ℤ) (d : ℕ) → 0 < d → (pos 2 *ℤ n +ℤ pos d) <ℤ (pos 2 *ℤ (pos d *ℤ rounded n d) +ℤ pos 2 *ℤ pos d)
-unfolding rounded
-rounded-high n d p =
-    subst (λ (z : ℤ). (pos 2 *ℤ n +ℤ pos d) <ℤ (z +ℤ pos (2 * d))) (*ℤ-assoc (pos 2) (pos d) (rounded n d))
-    (floor-high (pos 2 *ℤ n +ℤ pos d) (2 * d) (double p))
-
--- nearest: d times the rounded number is at most d / 2 from n
-pub nearest : (n : ℤ) (d : ℕ) → 0 < d → 2 * natAbs (pos d *ℤ rounded n d -ℤ n) ≤ d
-nearest n d p =
-    let near = pos d *ℤ rounded n d in
-    let ρ = near ∷ n ∷ pos d ∷ [] in
+-- nearest: d times the rounded number is at most d / 2 from n; from zero on, and then below it
+near : (a d : ℕ) → 0 < d → 2 * natAbs (pos d *ℤ rounded (pos a) d -ℤ pos a) ≤ d
+unfolding rounded floorQuotient
+near a d p =
+    let r = (2 * a + d) / (2 * d) in
     omega (
       integers,
-      rounded-low n d p,
-      rounded-high n d p,
-      expression-parts ρ (lit (pos 2) ⊗ var 0),
-      expression-parts ρ (lit (pos 2) ⊗ var 1 ⊕ var 2),
-      expression-parts ρ (lit (pos 2) ⊗ var 0 ⊕ lit (pos 2) ⊗ var 2),
-      difference-parts near n,
-      size-parts (near -ℤ n),
+      mul-div-le (2 * a + d) (2 * d),
+      lt-mul-div-succ (2 * a + d) (double p),
+      difference-parts (pos (d * r)) (pos a),
+      size-parts (pos (d * r) -ℤ pos a),
     )
+
+pub nearest : (n : ℤ) (d : ℕ) → 0 < d → 2 * natAbs (pos d *ℤ rounded n d -ℤ n) ≤ d
+nearest (pos a) d p = near a d p
+nearest (negsuc a) d p =
+    let r = rounded (pos (suc a)) d in
+    let back : pos d *ℤ rounded (negsuc a) d ≡ negℤ (pos d *ℤ r) =
+    ap (λ (z : ℤ). pos d *ℤ z) (rounded-odd (pos (suc a)) d p) ∙ times-neg (pos d) r in
+    subst (λ (z : ℤ). 2 * natAbs (z -ℤ negsuc a) ≤ d) (sym back) (omega (
+      integers,
+      near (suc a) d p,
+      difference-parts (pos d *ℤ r) (pos (suc a)),
+      size-parts (pos d *ℤ r -ℤ pos (suc a)),
+      negation-parts (pos d *ℤ r),
+      difference-parts (negℤ (pos d *ℤ r)) (negsuc a),
+      size-parts (negℤ (pos d *ℤ r) -ℤ negsuc a),
+    ))
 
 -- range: where n / d is at least m, so is the rounded number; and at most
 pub rounded-at-least : {m n : ℤ} (d : ℕ) → 0 < d → (m *ℤ pos d) ≤ℤ n → m ≤ℤ rounded n d
@@ -124,24 +106,37 @@ rounded-whole m d p =
     ≤ℤ-antisym (rounded-at-most d p (≤ℤ-refl (m *ℤ pos d))) (rounded-at-least d p (≤ℤ-refl (m *ℤ pos d)))
 
 -- scale: a common factor above 0 does not matter
+scaled : (c a d : ℕ) → 0 < c → 0 < d → rounded (pos (c * a)) (c * d) ≡ rounded (pos a) d
+unfolding rounded floorQuotient
+scaled c a d k p =
+    let top : 2 * (c * a) + c * d ≡ c * (2 * a + d) = omega arith in
+    let under : 2 * (c * d) ≡ c * (2 * d) = omega arith in
+    (λ t. pos (top t / under t)) ∙ ap pos (mul-div-mul-left (2 * a + d) (2 * d) k)
+
 pub rounded-scale : (c : ℕ) (n : ℤ) (d : ℕ) → 0 < c → 0 < d → rounded (pos c *ℤ n) (c * d) ≡ rounded n d
-unfolding rounded
-rounded-scale c n d k p =
-    let ρ = pos c ∷ n ∷ pos d ∷ rounded n d ∷ [] in
-    let two = lit (pos 2) in
-    let low = two ⊗ (var 2 ⊗ var 3) in
-    let wide = two ⊗ (var 0 ⊗ var 2) in
-    let top = identity (var 0 ⊗ (two ⊗ var 1 ⊕ var 2)) (two ⊗ (var 0 ⊗ var 1) ⊕ var 0 ⊗ var 2) ρ refl in
-    floor-unique (2 * (c * d)) (double (mul-pos k p))
-    (subst₂ _≤ℤ_ (identity (var 0 ⊗ low) (wide ⊗ var 3) ρ refl) top
-    (*ℤ-mono (pos c) (parts-le (omega arith)) (rounded-low n d p)))
-    (subst₂ _<ℤ_ top (identity (var 0 ⊗ (low ⊕ two ⊗ var 2)) (wide ⊗ var 3 ⊕ wide) ρ refl)
-    (*ℤ-mono-< c k (rounded-high n d p)))
+rounded-scale c (pos a) d k p = scaled c a d k p
+rounded-scale c (negsuc a) d k p =
+    rounded-odd (pos (c * suc a)) (c * d) (mul-pos k p)
+    ∙ ap negℤ (scaled c (suc a) d k p)
+    ∙ sym (rounded-odd (pos (suc a)) d p)
 
 -- monotone
+monotone : (a b d : ℕ) → 0 < d → a ≤ b → rounded (pos a) d ≤ℤ rounded (pos b) d
+unfolding rounded floorQuotient
+monotone a b d p h =
+    let less : (2 * a + d) / (2 * d) * (2 * d) ≤ 2 * b + d = omega (arith, div-mul-le-self (2 * a + d) (2 * d), h) in
+    let least : (2 * a + d) / (2 * d) ≤ (2 * b + d) / (2 * d) = le-div-iff-mul-le (double p) .1 less in
+    parts-le (omega (arith, least))
+
+monotone-signed : (m n : ℤ) (d : ℕ) → 0 < d → m ≤ℤ n → rounded m d ≤ℤ rounded n d
+unfolding rounded floorQuotient
+monotone-signed (pos a) (pos b) d p h = monotone a b d p (omega integers)
+monotone-signed (pos a) (negsuc b) d p h = absurd (h .le)
+monotone-signed (negsuc a) (pos b) d p h = omega (integers, negation-parts (pos ((2 * suc a + d) / (2 * d))))
+monotone-signed (negsuc a) (negsuc b) d p h = negℤ-anti (monotone (suc b) (suc a) d p (omega integers))
+
 pub rounded-monotone : {m n : ℤ} (d : ℕ) → 0 < d → m ≤ℤ n → rounded m d ≤ℤ rounded n d
-unfolding rounded
-rounded-monotone d p h = floor-monotone (2 * d) (double p) (+ℤ-mono (*ℤ-mono (pos 2) (leZ-yes tt) h) (≤ℤ-refl (pos d)))
+rounded-monotone {m} {n} d p h = monotone-signed m n d p h
 
 -- a rounded mean lies where the values that count lie
 pub mean-range : {m n : ℤ} {ws vs : List ℤ} (d : ℕ) → 0 < d → total ws ≡ pos d → Forall₂ (InRange m n) ws vs →

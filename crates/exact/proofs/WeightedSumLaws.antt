@@ -10,11 +10,11 @@ use native.Mathlib.Numerals.{add-one}
 use native.Mathlib.Omega.{arith}
 use lib.ListN.{length, getD, drop, drop-of-length-le}
 use lib.Seq.{drop-cons}
-use lib.IntN.{ℤ, pos, natAbs, _+ℤ_, _-ℤ_, _*ℤ_, +ℤ-assoc, zero-*ℤ, *ℤ-zero, *ℤ-comm}
+use lib.IntN.{ℤ, pos, negℤ, natAbs, _+ℤ_, _-ℤ_, _*ℤ_, +ℤ-assoc, negℤ-+ℤ, zero-*ℤ, *ℤ-zero, *ℤ-comm}
 use lib.Signed.{_≤ℤ_, ≤ℤ-refl}
 use Rattle.exact.specs.WeightedSum.{weightedSum, total, sizes, Within}
 use Rattle.exact.proofs.Parts.{integers, sum-parts, size-parts}
-use Rattle.exact.proofs.Integers.{*ℤ-+ℤ}
+use Rattle.exact.proofs.Integers.{*ℤ-+ℤ, times-neg}
 use Rattle.exact.proofs.Order.{+ℤ-mono, *ℤ-mono, ≡-≤ℤ, size-sum, size-product}
 use Rattle.exact.proofs.Expressions.{Expr, var, lit, _⊕_, _⊖_, _⊗_, value, identity}
 
@@ -62,6 +62,13 @@ multiple-of-values c (w ∷ ws) (v ∷ vs) =
     ap (λ (x : ℤ). w *ℤ (c *ℤ v) +ℤ x) (multiple-of-values c ws vs)
     ∙ identity (var 0 ⊗ (var 1 ⊗ var 2) ⊕ var 1 ⊗ var 3) (var 1 ⊗ (var 0 ⊗ var 2 ⊕ var 3))
     (w ∷ c ∷ v ∷ weightedSum ws vs ∷ []) refl
+
+pub negation-of-values : (ws vs : List ℤ) → weightedSum ws (map negℤ vs) ≡ negℤ (weightedSum ws vs)
+unfolding weightedSum
+negation-of-values [] vs = refl
+negation-of-values (w ∷ ws) [] = refl
+negation-of-values (w ∷ ws) (v ∷ vs) =
+    (λ t. times-neg w v t +ℤ negation-of-values ws vs t) ∙ sym (negℤ-+ℤ (w *ℤ v) (weightedSum ws vs))
 
 -- weights and values are alike, so what holds of the values holds of the weights too
 pub weightedSum-sym : (ws vs : List ℤ) → weightedSum ws vs ≡ weightedSum vs ws

@@ -1,53 +1,49 @@
--- Rounding, document 01, "Surface point": to the nearest whole number, halves upwards.
--- Contracts cite `rounded`; proofs use its laws (`proofs/RoundingLaws.antt`).
+-- Rounding, document 02 d: to the nearest whole number, halves away from zero. It replaces document 01's "halves
+-- upwards" ("Surface point") everywhere. Contracts cite `rounded`; proofs use its laws (`proofs/RoundingLaws.antt`).
 use mathlib.Core.Path.{_≡_, refl}
-use Prim.Native.Nat.{ℕ, _*_, _/_}
-use lib.IntN.{ℤ, pos, negsuc, _+ℤ_, _*ℤ_}
+use mathlib.Core.Bool.{Bool, true, false, not}
+use Prim.Native.Nat.{ℕ, _+_, _*_, _/_}
+use lib.IntN.{ℤ, pos, negsuc, negℤ, natAbs}
+use lib.Signed.{nonNeg}
 
--- n / d rounded down. `negsuc a` is -(a + 1): what lies below zero goes further down.
-unfoldable pub floorQuotient : ℤ → ℕ → ℤ
-floorQuotient (pos a) d = pos (a / d)
-floorQuotient (negsuc a) d = negsuc (a / d)
+-- a / d rounded down, of a size a
+unfoldable pub floorQuotient : ℕ → ℕ → ℤ
+floorQuotient a d = pos (a / d)
 
--- worked cases: -7/2 goes down to -4, and -8/2 is -4
-seven-halves-below : floorQuotient (negsuc 6) 2 ≡ negsuc 3
-unfolding floorQuotient
-seven-halves-below = refl
+-- z, or -z where the test says so
+abbrev pub negatedIf : Bool → ℤ → ℤ
+negatedIf false z = z
+negatedIf true z = negℤ z
 
-four-below : floorQuotient (negsuc 7) 2 ≡ negsuc 3
-unfolding floorQuotient
-four-below = refl
-
--- n / d to the nearest whole number, halves upwards, for d above 0: n / d plus a half, rounded down. Over 2d, n / d is
--- 2n and a half is d.
+-- n / d to the nearest whole number, halves away from zero, for d above 0: the size of n / d plus a half, rounded down,
+-- with the sign put back. Over 2d, the size of n / d is twice the size of n, and a half is d.
 unfoldable pub rounded : ℤ → ℕ → ℤ
-rounded n d = floorQuotient (pos 2 *ℤ n +ℤ pos d) (2 * d)
+rounded n d = negatedIf (not (nonNeg n)) (floorQuotient (2 * natAbs n + d) (2 * d))
 
--- worked cases: -47.75, the halves -95/2 and 95/2, and numbers at and around zero
-quarter-below : rounded (negsuc 190) 4 ≡ negsuc 47
-unfolding rounded floorQuotient
-quarter-below = refl
+-- worked cases: 7/2 goes down to 3, and 8/2 is 4
+seven-halves : floorQuotient 7 2 ≡ pos 3
+unfolding floorQuotient
+seven-halves = refl
 
-half-below-zero : rounded (negsuc 94) 2 ≡ negsuc 46
-unfolding rounded floorQuotient
-half-below-zero = refl
+eight-halves : floorQuotient 8 2 ≡ pos 4
+unfolding floorQuotient
+eight-halves = refl
 
-half-above-zero : rounded (pos 95) 2 ≡ pos 48
+-- -47.75 and 47.75; the halves -95/2 and 95/2, -1/2 and 1/2, -3/2 and 3/2; and thirds and quarters at and around zero
+quarters : (rounded (negsuc 190) 4 ≡ negsuc 47) × (rounded (pos 191) 4 ≡ pos 48)
 unfolding rounded floorQuotient
-half-above-zero = refl
+quarters = (refl, refl)
 
-minus-one-half : rounded (negsuc 0) 2 ≡ pos 0
+halves :
+    (rounded (negsuc 94) 2 ≡ negsuc 47) × (rounded (pos 95) 2 ≡ pos 48)
+    × (rounded (negsuc 0) 2 ≡ negsuc 0) × (rounded (pos 1) 2 ≡ pos 1)
+    × (rounded (negsuc 2) 2 ≡ negsuc 1) × (rounded (pos 3) 2 ≡ pos 2)
 unfolding rounded floorQuotient
-minus-one-half = refl
+halves = (refl, refl, refl, refl, refl, refl)
 
-one-half : rounded (pos 1) 2 ≡ pos 1
+around-zero :
+    (rounded (negsuc 1) 3 ≡ negsuc 0) × (rounded (negsuc 0) 3 ≡ pos 0) × (rounded (pos 0) 7 ≡ pos 0)
+    × (rounded (pos 1) 3 ≡ pos 0) × (rounded (pos 2) 3 ≡ pos 1)
+    × (rounded (negsuc 0) 4 ≡ pos 0) × (rounded (pos 1) 4 ≡ pos 0)
 unfolding rounded floorQuotient
-one-half = refl
-
-minus-two-thirds : rounded (negsuc 1) 3 ≡ negsuc 0
-unfolding rounded floorQuotient
-minus-two-thirds = refl
-
-nought : rounded (pos 0) 7 ≡ pos 0
-unfolding rounded floorQuotient
-nought = refl
+around-zero = (refl, refl, refl, refl, refl, refl, refl)

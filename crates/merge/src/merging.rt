@@ -71,6 +71,7 @@ fn merge_refusal(coarse: &[i32], details: &[i32], w: usize, h: usize, room: usiz
 
 // One refinement of the coarse net with the details added to it over the front of `out`, or the first of 1, 4, 2, 5, 3,
 // 11. Width and height are those of the coarse net.
+// Mirror images: `MirroredMerging` in `crates/mirror/specs/Promises.antt`.
 pub fn merge(coarse: &[i32], details: &[i32], w: usize, h: usize, out: &mut [i32]) -> MergeAnswer
     ensures { λ r. ⌜ MergeContract (now (coarse .entry)) (now (details .entry)) w h (now (out .entry)) r
         (now (out .exit)) ⌝ }

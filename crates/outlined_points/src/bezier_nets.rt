@@ -70,6 +70,7 @@ fn bezier_refusal(
 
 // The 19 points of a present triangle of cell (i, j) times 36, in 57 numbers over the front of `out`. `down` is 0 for
 // the up triangle and 1 for the down triangle.
+// Mirror images: `MirroredOutlinedBezier` in `crates/mirror/specs/Promises.antt`.
 pub fn bezier_net_outlined(
     net: &[i32],
     w: usize,

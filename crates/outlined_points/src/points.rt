@@ -55,6 +55,7 @@ pub fn surface_point_outlined_with(
 
 // The surface point at place (p, q) of the door that the outline describes. All of the outline's bytes are tested, so
 // the time grows with the net.
+// Mirror images: `MirroredPoints` in `crates/mirror/specs/Promises.antt`.
 pub fn surface_point_outlined(
     net: &[i32],
     w: usize,
@@ -89,6 +90,7 @@ pub fn view_point_outlined_with(
 }
 
 // The surface point in millimetres, for the viewer.
+// Mirror images: `MirroredPoints` in `crates/mirror/specs/Promises.antt`.
 pub fn view_point_outlined(
     net: &[i32],
     w: usize,

@@ -51,6 +51,7 @@ fn refine_both(
 // The k times refined net over the front of `out` and its outline over the front of `fine`, or the first of 1, 4, 2,
 // 13, 5, 14, 3. Where no fault before 14 is there, the first numbers of `search`, one a triangle of the net, are free
 // afterwards; `scratch` is as in `refine`.
+// Mirror images: `MirroredOutlinedRefining` in `crates/mirror/specs/Promises.antt`.
 pub fn refine_outlined(
     net: &[i32],
     w: usize,

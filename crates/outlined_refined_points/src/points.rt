@@ -95,6 +95,7 @@ pub fn refined_point_outlined_with(
 // The net refined by k steps over the front of `out`, its outline over the front of `fine`, and the surface point at
 // place (p, q) of the refined grid; or the first of 1, 4, 6, 2, 13, 15, 5, 14, 3. With demand 3: where nothing is
 // refused, the answer is a point near the exact spline of the starting net and within its control values.
+// Mirror images: `MirroredPoints` in `crates/mirror/specs/Promises.antt`.
 pub fn refined_point_outlined(
     net: &[i32],
     w: usize,

@@ -20,6 +20,7 @@ fn refusal_of(net: &[i32], w: usize, h: usize, k: usize, room: usize, scratch: u
 
 // The k times refined net over the front of `out`, or the first of 1, 4, 2, 5, 3. When k is 2 or more, the first
 // numbers of `scratch` up to the size after k - 1 steps are free afterwards.
+// Mirror images: `MirroredRefining` in `crates/mirror/specs/Promises.antt`.
 pub fn refine(
     net: &[i32],
     w: usize,

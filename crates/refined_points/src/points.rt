@@ -77,6 +77,7 @@ pub fn refined_point_with(
 // The net refined by k steps over the front of `out`, and the surface point at place (p, q) of the refined grid; or the
 // first of 1, 4, 6, 2, 5, 3. With demand 3: where nothing is refused, the answer is a point near the exact spline of
 // the starting net and within its control values.
+// Mirror images: `MirroredPoints` in `crates/mirror/specs/Promises.antt`.
 pub fn refined_point(
     net: &[i32],
     w: usize,

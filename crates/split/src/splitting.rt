@@ -98,6 +98,7 @@ pub fn split_with(
 
 // The coarse net over the front of `coarse` and the details over the front of `details`, or the first of 1, 10, 2, 5,
 // 3, 11.
+// Mirror images: `MirroredSplitting` in `crates/mirror/specs/Promises.antt`.
 pub fn split(
     net: &[i32],
     w: usize,

@@ -104,6 +104,7 @@ pub fn surface_point_with(
 }
 
 // The surface point at place (p, q), counted in 1,024ths of an edge.
+// Mirror images: `MirroredPoints` in `crates/mirror/specs/Promises.antt`.
 pub fn surface_point(net: &[i32], w: usize, h: usize, p: usize, q: usize) -> PointAnswer
     ensures { λ r. ⌜ pointOutcome r ≡ pointAnswer (now (net .entry)) w h p q ⌝ }
 {
@@ -140,6 +141,7 @@ pub fn view_point_with(
 }
 
 // The surface point in millimetres, for the viewer.
+// Mirror images: `MirroredPoints` in `crates/mirror/specs/Promises.antt`.
 pub fn view_point(net: &[i32], w: usize, h: usize, p: usize, q: usize) -> ViewAnswer
     ensures { λ r. ⌜ viewOutcome r ≡ viewAnswer (now (net .entry)) w h p q ⌝ }
 {

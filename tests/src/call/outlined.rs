@@ -2,7 +2,7 @@
 
 use super::{bits_answer, door_answer, lent_len, numbers_answer, vertex_answer, Answer, Ask, Call};
 use crate::kernel::{DoorRoom, LentNet, LentOutline, Number, RefinedDoor};
-use crate::oracle::{self, Faults};
+use crate::oracle::{self, Faults, Kind};
 use crate::outlines::{self, Door, Lengths};
 use crate::refinement;
 use std::fmt;
@@ -165,6 +165,15 @@ impl Call {
             _ => panic!("no call with an outline: {self:?}"),
         }
     }
+}
+
+/// The Bézier net of each triangle, in the order of an outline's bytes.
+pub fn bezier_asks(size: (usize, usize)) -> impl Iterator<Item = Ask> {
+    outlines::all(size).map(|triangle| Ask::Bezier {
+        i: triangle.i as usize,
+        j: triangle.j as usize,
+        down: u32::from(triangle.kind == Kind::Down),
+    })
 }
 
 /// The five calls on a net with an outline: on the first triangle, and by so many steps.

@@ -102,7 +102,7 @@ fn points_of_the_door_corner_turned_over() {
     assert_eq!(point(&net, 0, 0), [0, 0, -40]);
     assert_eq!(point(&net, 512, 0), [600, 0, -40]);
     assert_eq!(point(&net, 0, 512), [0, 600, -30]);
-    assert_eq!(point(&net, 256, 256), [300, 300, -47]);
+    assert_eq!(point(&net, 256, 256), [300, 300, -48]);
 }
 
 #[test]
@@ -155,8 +155,8 @@ fn refined_numbers_of_the_door_corner() {
 }
 
 #[test]
-fn refined_halves_go_upwards_on_both_sides_of_zero() {
-    for (z, half) in [(1, 1), (-1, 0), (3, 2), (-3, -1), (5, 3), (-5, -2)] {
+fn refined_halves_go_away_from_zero() {
+    for (z, half) in [(1, 1), (-1, -1), (3, 2), (-3, -2), (5, 3), (-5, -3)] {
         let z = net_z(&refine(&door_corner(z), 1));
         assert_eq!(z[3..6], [0, half, half]);
     }
@@ -238,17 +238,17 @@ fn x_and_y_of_the_door_corner_are_linear() {
 /// At place (0, 512) the z of c1 of (0, 0) counts one quarter, so each number of quarters over
 /// or under a whole number can be set up.
 #[test]
-fn quarters_are_rounded_once_with_halves_upwards() {
+fn quarters_are_rounded_once_with_halves_away_from_zero() {
     for (base, quarters, expected) in [
         (-48, 0, -48),
-        (-48, 1, -48), // -47.75: division towards zero would give -47
-        (-48, 2, -47), // -47.5
+        (-48, 1, -48), // -47.75: plus a half, divided towards zero, it would give -47
+        (-48, 2, -48), // -47.5
         (-48, 3, -47),
         (47, 1, 47),
         (47, 2, 48),
         (47, 3, 48),
         (-1, 1, -1),
-        (-1, 2, 0), // -0.5
+        (-1, 2, -1), // -0.5
         (-1, 3, 0),
         (0, 1, 0),
         (0, 2, 1),

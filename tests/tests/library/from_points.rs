@@ -99,7 +99,7 @@ fn points_at_vertices() {
 }
 
 /// Where one of the vectors is odd, or both are, two of the refined controls are halves and are
-/// rounded upwards. The point is p all the same.
+/// rounded away from zero. The point is p all the same.
 #[test]
 fn points_at_vertices_with_odd_vectors() {
     for p in [-2, -1, 0, 1, 5] {
@@ -112,18 +112,21 @@ fn points_at_vertices_with_odd_vectors() {
     }
 }
 
-/// One refinement is all that is claimed: here the first one rounds c1 and c2 up by a half, and
-/// the second one all three by a third, which makes their sum 2 and the point 1.
+/// One refinement is all that is claimed: here the first one rounds c1 and c2 away from zero by a
+/// half, and the second one all three by a third, which makes their sum 2 and the point 1, or -2
+/// and -1.
 #[test]
 fn two_refinements_may_move_a_point() {
     let size = (3, 2);
-    let given = everywhere([0, 0, 0, 1, 1, 1, 1, 1, 1], size);
-    check_points(&given, size, 1);
-    let net = LentNet::new(&through(&given, size));
-    let room = Room::of_steps(size, 2, 0);
-    for (at @ (i, j), _) in vertices(&given, size) {
-        let twice = net.refined_point(size, 2, (4096 * i, 4096 * j), room, 3);
-        assert_eq!(twice.map(|(_, point)| point), Ok([1; 3]), "{at:?}");
+    for sign in [1, -1] {
+        let given = everywhere([0, 0, 0, 1, 1, 1, 1, 1, 1].map(|x| sign * x), size);
+        check_points(&given, size, 1);
+        let net = LentNet::new(&through(&given, size));
+        let room = Room::of_steps(size, 2, 0);
+        for (at @ (i, j), _) in vertices(&given, size) {
+            let twice = net.refined_point(size, 2, (4096 * i, 4096 * j), room, 3);
+            assert_eq!(twice.map(|(_, point)| point), Ok([sign; 3]), "{at:?}");
+        }
     }
 }
 

@@ -13,6 +13,7 @@ mod from_points;
 mod from_points_refusals;
 mod listing;
 mod merging;
+mod mirror_images;
 mod multiresolution_oracle;
 mod multiresolution_order;
 mod multiresolution_refusals;

@@ -103,19 +103,23 @@ fn the_refined_door_corner_splits_into_the_door_corner() {
     }
 }
 
+/// The same with all signs changed, since halves go away from zero.
 #[test]
 fn merged_numbers() {
     // c1 = 1 at (0, 0): 4/6, 1/6, 1/6 there, 0, 2/4, 2/4 at (1, 0), 1/4, 0, 1/2 at (0, 1).
-    let coarse = with_triangle(COARSE_NUMBERS, 0, [1, 0, 0]);
     for (detail, expected) in [
         (0, [[1, 0, 0], [0, 1, 1], [0, 0, 1]]),
         (-1, [[0, -1, -1], [-1, 0, 0], [-1, -1, 0]]),
         (5, [[6, 5, 5], [5, 6, 6], [5, 5, 6]]),
     ] {
-        let merged = merge(&coarse, &[detail; DETAILS]).expect("accepted");
-        let found = [0, 1, 3].map(|vertex| triangle(&merged, vertex, RECORD));
-        assert_eq!(found, expected, "{detail}");
-        assert_eq!(triangle(&merged, 8, RECORD), [detail; 3]);
+        for sign in [1, -1] {
+            let coarse = with_triangle(COARSE_NUMBERS, 0, [sign, 0, 0]);
+            let merged = merge(&coarse, &[sign * detail; DETAILS]).expect("accepted");
+            let found = [0, 1, 3].map(|vertex| triangle(&merged, vertex, RECORD));
+            let expected = expected.map(|triangle| triangle.map(|x| sign * x));
+            assert_eq!(found, expected, "{sign}, {detail}");
+            assert_eq!(triangle(&merged, 8, RECORD), [sign * detail; 3]);
+        }
     }
 }
 

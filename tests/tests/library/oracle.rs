@@ -2,9 +2,10 @@
 
 use ups_tests::netfile;
 use ups_tests::nets::{self, NUMBERS};
-use ups_tests::oracle::{self, chosen_triangle, triangles_at, Kind, Net, Patch, Triangle, EDGE};
+use ups_tests::oracle::{self, chosen_triangle, triangles_at};
+use ups_tests::oracle::{Kind, Net, Patch, Triangle, EDGE, LIMIT};
 use ups_tests::random::Random;
-use ups_tests::rational::Rational;
+use ups_tests::rational::{is_nearest, nearest, Rational};
 use ups_tests::record::{self, POINT_RECORD, RECORD};
 use ups_tests::refinement;
 
@@ -42,31 +43,15 @@ fn rational_arithmetic_is_exact() {
 }
 
 #[test]
-fn floor_goes_down_on_both_sides_of_zero() {
-    for (n, d, expected) in [
-        (7, 2, 3),
-        (-7, 2, -4),
-        (-8, 2, -4),
-        (8, 2, 4),
-        (0, 5, 0),
-        (-1, 1024, -1),
-        (1, 1024, 0),
-        (-189, 4, -48),
-    ] {
-        assert_eq!(ratio(n, d).floor(), expected, "{n}/{d}");
-    }
-}
-
-#[test]
-fn rounding_takes_halves_upwards() {
+fn rounding_takes_halves_away_from_zero() {
     for (quarters, expected) in [
         (190, 48),   // 47.5
         (189, 47),   // 47.25
         (191, 48),   // 47.75
-        (-190, -47), // -47.5
-        (-191, -48), // -47.75, plus a half is -47.25
+        (-190, -48), // -47.5
+        (-191, -48), // -47.75
         (-189, -47), // -47.25
-        (-2, 0),
+        (-2, -1),
         (2, 1),
         (-1, 0),
         (-3, -1),
@@ -78,6 +63,40 @@ fn rounding_takes_halves_upwards() {
             expected,
             "{quarters} quarters"
         );
+    }
+}
+
+/// What the library divides by: 12 in refining, or 6, 4 and 2 for one kind of vertex, 3 in
+/// splitting, and `PLACE` for a point.
+const DIVISORS: [i128; 6] = [12, 6, 4, 3, 2, PLACE];
+const PLACE: i128 = 36 * EDGE * EDGE;
+
+/// Numerators with each remainder for small divisors, and with those near a half and a whole number
+/// for the great one, around zero and around both ends of the range.
+#[test]
+fn rounded_fractions_are_nearest_and_odd() {
+    for d in DIVISORS {
+        let end = i128::from(LIMIT) * d;
+        let whole = [-end, -d, 0, d, end];
+        for centre in whole.into_iter().flat_map(|n| [n - d / 2, n, n + d / 2]) {
+            for n in centre - 40..=centre + 40 {
+                let r = ratio(n, d).rounded();
+                let fit = [r - 1, r, r + 1].map(|other| is_nearest(other, n, d));
+                assert_eq!(fit, [false, true, false], "{n}/{d}: {r}");
+                assert_eq!(ratio(-n, d).rounded(), -r, "{n}/{d}");
+            }
+        }
+    }
+}
+
+/// Every remainder of the greatest divisor, above zero and below: too many to be reduced, so that
+/// the whole numbers behind `rounded` are tried.
+#[test]
+fn every_remainder_of_a_place_is_rounded_to_the_nearest() {
+    for n in 0..=PLACE {
+        let r = nearest(n, PLACE);
+        assert!(is_nearest(r, n, PLACE), "{n}: {r}");
+        assert_eq!(nearest(-n, PLACE), -r, "{n}");
     }
 }
 
@@ -279,13 +298,13 @@ fn refined_z_of_the_door_corner() {
     for (z, expected) in [
         (120, [[80, 20, 20], [0, 60, 60], [30, 0, 60]]),
         (-120, [[-80, -20, -20], [0, -60, -60], [-30, 0, -60]]),
-        // 4/6, 1/6, 1/2 and 1/4 of these, halves upwards.
+        // 4/6, 1/6, 1/2 and 1/4 of these, halves away from zero.
         (1, [[1, 0, 0], [0, 1, 1], [0, 0, 1]]),
-        (-1, [[-1, 0, 0], [0, 0, 0], [0, 0, 0]]),
+        (-1, [[-1, 0, 0], [0, -1, -1], [0, 0, -1]]),
         (2, [[1, 0, 0], [0, 1, 1], [1, 0, 1]]),
-        (-2, [[-1, 0, 0], [0, -1, -1], [0, 0, -1]]),
+        (-2, [[-1, 0, 0], [0, -1, -1], [-1, 0, -1]]),
         (3, [[2, 1, 1], [0, 2, 2], [1, 0, 2]]),
-        (-3, [[-2, 0, 0], [0, -1, -1], [-1, 0, -1]]),
+        (-3, [[-2, -1, -1], [0, -2, -2], [-1, 0, -2]]),
     ] {
         let refined = refinement::refined(&nets::door_corner(z), (2, 2), 1);
         let all_z = refined.iter().skip(2).step_by(POINT_RECORD);

@@ -1,7 +1,7 @@
 //! Points and Bézier nets with an outline: those on the door are as without one.
 
 use std::collections::BTreeSet;
-use ups_tests::call::{outlined_asks, Answer, Ask, Call};
+use ups_tests::call::{bezier_asks, outlined_asks, Answer, Ask, Call};
 use ups_tests::kernel::LentNet;
 use ups_tests::nets::{self, Numbers, NUMBERS};
 use ups_tests::oracle::{chosen_triangle, Triangle, EDGE, LIMIT};
@@ -67,12 +67,9 @@ fn bezier_nets_of_all_outlines() {
         let net = nets::random_net(&mut random, size, Numbers::Mixed);
         for number in 0..1 << outlines::triangles(size).expect("a count") {
             let bytes = shapes::numbered(size, number);
-            for (n, triangle) in outlines::all(size).enumerate() {
-                let (i, j) = (triangle.i as usize, triangle.j as usize);
-                let down = n as u32 % 2;
-                let call = Call::new(&net, size, Ask::Bezier { i, j, down });
-                let refusal = if bytes[n] == 1 { 0 } else { 15 };
-                call.with_outline(&bytes).expect(refusal);
+            for (ask, &byte) in bezier_asks(size).zip(&bytes) {
+                let call = Call::new(&net, size, ask).with_outline(&bytes);
+                call.expect(if byte == 1 { 0 } else { 15 });
             }
         }
     }
@@ -176,11 +173,7 @@ fn all_bytes_one() {
         for (p, q) in nets::places(&mut random, size) {
             asks.extend([Ask::Surface { p, q }, Ask::View { p, q }]);
         }
-        asks.extend(outlines::all(size).enumerate().map(|(n, t)| Ask::Bezier {
-            i: t.i as usize,
-            j: t.j as usize,
-            down: n as u32 % 2,
-        }));
+        asks.extend(bezier_asks(size));
         for ask in asks {
             let plain = Call::new(&net, size, ask);
             let answer = plain.clone().with_outline(&bytes).check();

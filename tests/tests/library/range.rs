@@ -4,7 +4,7 @@ use ups_tests::kernel::LentNet;
 use ups_tests::nets::{self, NUMBERS};
 use ups_tests::oracle::{self, triangles_at, Net, EDGE};
 use ups_tests::random::Random;
-use ups_tests::rational::Rational;
+use ups_tests::rational::is_nearest;
 use ups_tests::record;
 
 #[test]
@@ -29,10 +29,10 @@ fn the_point_lies_between_the_control_values_of_each_triangle_that_holds_it() {
     }
 }
 
+/// Where two whole numbers are a half away, it is the one further from zero.
 #[test]
 fn the_point_is_within_a_half_of_the_exact_value() {
     let mut random = Random::new(42);
-    let half = Rational::new(1, 2);
     for round in 0..200 {
         let (w, h) = nets::random_size(&mut random);
         let numbers = nets::random_net(&mut random, (w, h), NUMBERS[round % 4]);
@@ -43,8 +43,8 @@ fn the_point_is_within_a_half_of_the_exact_value() {
             for triangle in triangles_at(w, h, p as i128, q as i128, EDGE) {
                 let exact = net.exact_in(triangle, p as i128, q as i128, EDGE);
                 for (x, exact) in point.into_iter().zip(exact) {
-                    let error = Rational::from(x) - exact;
-                    assert!(-half < error && error <= half, "({p}, {q})");
+                    let (n, d) = (exact.numerator(), exact.denominator());
+                    assert!(is_nearest(x.into(), n, d), "({p}, {q})");
                 }
             }
         }

@@ -6,6 +6,7 @@ use ups_tests::multiresolution::{self, coarse_size, kept, Split, DETAIL_LIMIT};
 use ups_tests::nets::{self, Numbers};
 use ups_tests::oracle::LIMIT;
 use ups_tests::random::Random;
+use ups_tests::rational::nearest;
 use ups_tests::record::{self, POINT_RECORD, RECORD};
 
 type Size = (usize, usize);
@@ -111,9 +112,9 @@ fn coarse_net(net: &[i32], (w, _): Size) -> Vec<i32> {
         for (position, &x) in vertex.iter().enumerate().filter(|_| kept(n, w)) {
             let three = vertex.iter().skip(position % POINT_RECORD);
             let sum: i32 = three.step_by(POINT_RECORD).sum();
-            // 5x less the others is 6x less all three. A third of it, plus a half, goes down.
-            let thirds = 6 * i64::from(x) - i64::from(sum);
-            coarse.push((2 * thirds + 3).div_euclid(6) as i32);
+            // 5x less the others is 6x less all three.
+            let thirds = 6 * i128::from(x) - i128::from(sum);
+            coarse.push(nearest(thirds, 3) as i32);
         }
     }
     coarse
