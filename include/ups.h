@@ -23,8 +23,8 @@
  * Grid. Cell (i, j) has an up triangle with the corners (i, j), (i+1, j), (i, j+1), and a down triangle with the
  * corners (i+1, j), (i, j+1), (i+1, j+1). A place (p, q) counts 1,024ths of an edge, UPS_EDGE, p up to 1024(w-1) and q
  * up to 1024(h-1). Values are rounded to the nearest whole number, halves away from zero (document 02, d). So a net
- * with a coordinate negated, a left door for a right one, gives every result with that coordinate negated, and is
- * refused alike.
+ * with a coordinate negated, a left door for a right one, gives points, nets, details and Bezier nets with that
+ * coordinate negated, and is refused alike.
  *
  * Outlines. An outline says which triangles of a net are on the door: one byte a triangle, 1 present and 0 missing, row
  * by row and cell by cell, up before down: byte 2(j(w-1) + i) is of the up triangle of cell (i, j), the next one of its

@@ -33,8 +33,8 @@
 //! A **place** (p, q) counts 1,024ths of an edge: p goes up to 1024(w-1) and q to 1024(h-1).
 //!
 //! Values are rounded to the nearest whole number, halves away from zero (document 02, d). So a
-//! net with a coordinate negated, a left door for a right one, gives every result with that
-//! coordinate negated, and is refused alike.
+//! net with a coordinate negated, a left door for a right one, gives points, nets, details and
+//! Bézier nets with that coordinate negated, and is refused alike.
 //!
 //! An **outline** has one byte for each triangle, 1 where it is present and 0 where it is missing:
 //! row by row and cell by cell, up before down. A place is **on the door** where some present

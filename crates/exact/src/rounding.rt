@@ -1,4 +1,4 @@
-// Rounding of a quotient of signed numbers. The only signed division of the kernel stands here.
+// Rounding of a quotient of signed numbers. The kernel divides signed numbers nowhere else.
 ghost use mathlib.Core.Path.{_≡_};
 ghost use Prim.Native.Nat.{_<_, _≤_, _^_};
 ghost use lib.IntN.{natAbs};

@@ -1,14 +1,13 @@
 -- Worked cases of `Mirrored` and `MirroredDetails`: what is a mirror image, and what is not.
 use mathlib.Core.Path.{_≡_, refl, subst}
 use mathlib.Core.List.{List, [], _∷_, _++_}
-use Prim.Native.Nat.{ℕ, zero, suc, _<_}
+use Prim.Native.Nat.{zero, suc}
 use native.Mathlib.Omega.{arith}
 use lib.Dec.{T, eqb, lit<}
 use lib.IntN.{ℤ, pos, negsuc, pos-ne-negsuc}
 use lib.ListN.{replicate, set}
-use Rattle.exact.specs.Rounding.{negatedIf}
 use Rattle.exact.specs.Filling.{runs}
-use Rattle.net.specs.Net.{Index, one, two, three, vertexAt, number, field, grid, controlPoint, controlTriangle, squares}
+use Rattle.net.specs.Net.{one, two, three, number, field, grid, controlPoint, controlTriangle, squares}
 use Rattle.steps.specs.RefinedNet.{stored}
 use Rattle.details.specs.Details.{detailField, detailTriangle}
 use Rattle.mirror.specs.Mirror.{Coordinates, Opposite, Mirrored, MirroredDetails, mirrorNet}
@@ -27,42 +26,42 @@ image = pos 1 ∷ negsuc 1 ∷ pos 3 ∷ pos 4 ∷ negsuc 4 ∷ pos 6 ∷ pos 7 
 nine-opposite : (l l′ : List ℤ) → number l′ 0 ≡ number l 0 →
     Opposite y 1 1 (field (eight ++ l) 1) (field (image ++ l′) 1)
 unfolding controlTriangle controlPoint
-nine-opposite l l′ e x c (suc i) j a b k = absurd (omega (arith, a))
-nine-opposite l l′ e x c zero (suc j) a b k = absurd (omega (arith, b))
-nine-opposite l l′ e x c zero zero a b k = at x c k
-  where
-    at : (x : ℕ) → x < 3 → (k : Index) →
-        field (image ++ l′) 1 x (vertexAt 0 0) k ≡ negatedIf (y x) (field (eight ++ l) 1 x (vertexAt 0 0) k)
-    at zero c one = refl
-    at zero c two = refl
-    at zero c three = refl
-    at (suc zero) c one = refl
-    at (suc zero) c two = refl
-    at (suc zero) c three = refl
-    at (suc (suc zero)) c one = refl
-    at (suc (suc zero)) c two = refl
-    at (suc (suc zero)) c three = e
-    at (suc (suc (suc x))) c k = absurd (omega (arith, c))
+nine-opposite l l′ e zero c (suc i) j a b k = absurd (omega (arith, a))
+nine-opposite l l′ e zero c zero (suc j) a b k = absurd (omega (arith, b))
+nine-opposite l l′ e zero c zero zero a b one = refl
+nine-opposite l l′ e zero c zero zero a b two = refl
+nine-opposite l l′ e zero c zero zero a b three = refl
+nine-opposite l l′ e (suc zero) c (suc i) j a b k = absurd (omega (arith, a))
+nine-opposite l l′ e (suc zero) c zero (suc j) a b k = absurd (omega (arith, b))
+nine-opposite l l′ e (suc zero) c zero zero a b one = refl
+nine-opposite l l′ e (suc zero) c zero zero a b two = refl
+nine-opposite l l′ e (suc zero) c zero zero a b three = refl
+nine-opposite l l′ e (suc (suc zero)) c (suc i) j a b k = absurd (omega (arith, a))
+nine-opposite l l′ e (suc (suc zero)) c zero (suc j) a b k = absurd (omega (arith, b))
+nine-opposite l l′ e (suc (suc zero)) c zero zero a b one = refl
+nine-opposite l l′ e (suc (suc zero)) c zero zero a b two = refl
+nine-opposite l l′ e (suc (suc zero)) c zero zero a b three = e
+nine-opposite l l′ e (suc (suc (suc x))) c i j a b k = absurd (omega (arith, c))
 
 nine-details : (l l′ : List ℤ) → number l′ 0 ≡ number l 0 →
     Opposite y 1 1 (detailField (eight ++ l) 1) (detailField (image ++ l′) 1)
 unfolding detailTriangle controlPoint
-nine-details l l′ e x c (suc i) j a b k = absurd (omega (arith, a))
-nine-details l l′ e x c zero (suc j) a b k = absurd (omega (arith, b))
-nine-details l l′ e x c zero zero a b k = at x c k
-  where
-    at : (x : ℕ) → x < 3 → (k : Index) →
-        detailField (image ++ l′) 1 x (vertexAt 0 0) k ≡ negatedIf (y x) (detailField (eight ++ l) 1 x (vertexAt 0 0) k)
-    at zero c one = refl
-    at zero c two = refl
-    at zero c three = refl
-    at (suc zero) c one = refl
-    at (suc zero) c two = refl
-    at (suc zero) c three = refl
-    at (suc (suc zero)) c one = refl
-    at (suc (suc zero)) c two = refl
-    at (suc (suc zero)) c three = e
-    at (suc (suc (suc x))) c k = absurd (omega (arith, c))
+nine-details l l′ e zero c (suc i) j a b k = absurd (omega (arith, a))
+nine-details l l′ e zero c zero (suc j) a b k = absurd (omega (arith, b))
+nine-details l l′ e zero c zero zero a b one = refl
+nine-details l l′ e zero c zero zero a b two = refl
+nine-details l l′ e zero c zero zero a b three = refl
+nine-details l l′ e (suc zero) c (suc i) j a b k = absurd (omega (arith, a))
+nine-details l l′ e (suc zero) c zero (suc j) a b k = absurd (omega (arith, b))
+nine-details l l′ e (suc zero) c zero zero a b one = refl
+nine-details l l′ e (suc zero) c zero zero a b two = refl
+nine-details l l′ e (suc zero) c zero zero a b three = refl
+nine-details l l′ e (suc (suc zero)) c (suc i) j a b k = absurd (omega (arith, a))
+nine-details l l′ e (suc (suc zero)) c zero (suc j) a b k = absurd (omega (arith, b))
+nine-details l l′ e (suc (suc zero)) c zero zero a b one = refl
+nine-details l l′ e (suc (suc zero)) c zero zero a b two = refl
+nine-details l l′ e (suc (suc zero)) c zero zero a b three = e
+nine-details l l′ e (suc (suc (suc x))) c i j a b k = absurd (omega (arith, c))
 
 -- of a vertex with ten numbers and more, and of one that lacks its ninth on both sides
 images :
