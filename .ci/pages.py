@@ -39,7 +39,7 @@ DUE = {
 
 # the most lines of a file
 MOST = {
-    "README.md": 133,
+    "README.md": 134,
     "docs/REFERENCE.md": 262,
     "examples/door.c": 80,
     "examples/point.c": 10,
@@ -49,7 +49,7 @@ MOST = {
 # the examples that README.md has, each as a fenced block under its heading
 COPIED = {"Use it from C": "examples/point.c", "Use it from Rust": "rust/examples/point.rs"}
 
-PLANS = r"\b(?:DESIGN|SPEED|TOOLCHAIN-NOTES|PLAN-[A-Z]+)\b"
+PLANS = r"\b(?:DESIGN|(?<!docs/)SPEED|TOOLCHAIN-NOTES|PLAN-[A-Z]+)\b"
 
 faults = []
 

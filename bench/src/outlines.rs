@@ -4,7 +4,7 @@ use crate::plain_outline::{self, comb, full, spiral, turned};
 use crate::plain_refine::Size;
 use crate::{
     answer, medians, print_headings, print_times, sample, sum, touched, Pass, Random, CALLS,
-    FINE_SIDE, PASSES, SIDE, STEPS,
+    FINE_SIDE, MS, PASSES, SIDE, STEPS,
 };
 use std::cell::RefCell;
 use std::hint::black_box;
@@ -39,7 +39,7 @@ fn check() {
             i64::from(answer.is_ok())
         });
         let times = medians(name, 1, || (), vec![kernel, flood]);
-        print_times(name, &times);
+        print_times(name, MS, &times);
     }
 }
 
@@ -88,7 +88,7 @@ fn refine(net: &[i32]) {
             sample(black_box(out))
         });
         let times = medians(name, 1, || (), vec![outlined, without]);
-        print_times(name, &times);
+        print_times(name, MS, &times);
     }
 }
 

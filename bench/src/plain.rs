@@ -2,10 +2,9 @@
 //!
 //! Sums are formed in `i64`; the greatest is 36 times 2^24 times 2^20 in size.
 
-use ups::{net_numbers, BEZIER, POINT, RECORD};
+use ups::{net_numbers, BEZIER, EDGE, POINT, RECORD};
 
 pub const LIMIT: i32 = 16_777_216;
-const EDGE: usize = 1024;
 /// Numbers of a control point in a net: a vertex has three control points.
 pub const POINT_RECORD: usize = RECORD / 3;
 
@@ -20,7 +19,7 @@ type Point = [i64; 3];
 /// For each corner of an up and of a down triangle: k of its neighbour P + ek, m of its
 /// neighbour P - em and the third index n, counted from 0. In both kinds P + ek is the next
 /// corner.
-const TURNS: [[[usize; 3]; 3]; 2] = [
+pub const TURNS: [[[usize; 3]; 3]; 2] = [
     [[0, 2, 1], [1, 0, 2], [2, 1, 0]],
     [[1, 2, 0], [0, 1, 2], [2, 0, 1]],
 ];
@@ -125,14 +124,23 @@ pub fn bezier_net(
         return Err(6);
     }
     check_lengths(net, (w, h), out.len(), BEZIER)?;
-    let [a, b, c] = corners(net, w, i, j, down as usize)?;
-    // P + ek is the next corner, P - em the one before.
+    let points = bezier_points(corners(net, w, i, j, down as usize)?);
+    for (target, numbers) in out.chunks_exact_mut(3).zip(&points) {
+        for (number, &x) in target.iter_mut().zip(numbers) {
+            *number = x as i32;
+        }
+    }
+    Ok(())
+}
+
+/// 36 times the points of a Bézier net. P + ek is the next corner, P - em the one before.
+fn bezier_points([a, b, c]: [Corner; 3]) -> [Point; BEZIER / POINT] {
     let (ab, ba) = (a.u_ahead(), b.u_behind());
     let (bc, cb) = (b.u_ahead(), c.u_behind());
     let (ca, ac) = (c.u_ahead(), a.u_behind());
     let (va, vb, vc) = (a.v(), b.v(), c.v());
     let centre = point(|x| (va[x] + vb[x] + vc[x]) / 3);
-    let points = [
+    [
         a.s(),
         b.s(),
         c.s(),
@@ -152,26 +160,10 @@ pub fn bezier_net(
         half_sum(va, vc),
         half_sum(vb, vc),
         centre,
-    ];
-    for (target, numbers) in out.chunks_exact_mut(3).zip(&points) {
-        for (number, &x) in target.iter_mut().zip(numbers) {
-            *number = x as i32;
-        }
-    }
-    Ok(())
+    ]
 }
 
-#[inline(never)]
-pub fn surface_point(
-    net: &[i32],
-    size: (usize, usize),
-    place: (usize, usize),
-    out: &mut [i32],
-) -> Result<(), Refusal> {
-    point_with(net, size, place, out, by_formula)
-}
-
-/// The same by de Casteljau's steps.
+/// A surface point by de Casteljau's steps.
 #[inline(never)]
 pub fn surface_point_by_steps(
     net: &[i32],
@@ -179,18 +171,28 @@ pub fn surface_point_by_steps(
     place: (usize, usize),
     out: &mut [i32],
 ) -> Result<(), Refusal> {
-    point_with(net, size, place, out, by_steps)
+    point_with(net, size, place, out, |number| number)
 }
 
-/// The point whose value, times 36 times 1,024 squared, `evaluate` gives in one coordinate: from
-/// the numbers A, B, G of the place and 36 times the Bézier points s, u, v, r, m, z.
+/// The viewer's point by the same steps.
+#[inline(never)]
+pub fn view_point(
+    net: &[i32],
+    size: (usize, usize),
+    place: (usize, usize),
+    out: &mut [f64],
+) -> Result<(), Refusal> {
+    point_with(net, size, place, out, |number| f64::from(number) / 1024.0)
+}
+
+/// The point, each of whose numbers is stored as what `stored` makes of it.
 #[inline(always)]
-fn point_with(
+fn point_with<T>(
     net: &[i32],
     (w, h): (usize, usize),
     (p, q): (usize, usize),
-    out: &mut [i32],
-    evaluate: impl Fn([i64; 3], [i64; 6]) -> i64,
+    out: &mut [T],
+    stored: impl Fn(i32) -> T,
 ) -> Result<(), Refusal> {
     check_size(w, h)?;
     if p > EDGE * (w - 1) || q > EDGE * (h - 1) {
@@ -198,12 +200,7 @@ fn point_with(
     }
     check_lengths(net, (w, h), out.len(), POINT)?;
     let (i, j) = ((p / EDGE).min(w - 2), (q / EDGE).min(h - 2));
-    let (f, g) = (p - EDGE * i, q - EDGE * j);
-    let (down, shares) = if f + g <= EDGE {
-        (0, [EDGE - f - g, f, g])
-    } else {
-        (1, [EDGE - g, EDGE - f, f + g - EDGE])
-    };
+    let (down, shares) = shares(p - EDGE * i, q - EDGE * j);
     let corners = corners(net, w, i, j, down)?;
 
     // From here on p, q, t are the corners P, Q, T.
@@ -222,19 +219,24 @@ fn point_with(
         let r = (u[x] + u_back[x]) / 2;
         let m = (v[x] + v_second[x]) / 2;
         let z = (v[x] + v_second[x] + v_third[x]) / 3;
-        let sum = evaluate(place, [s[x], u[x], v[x], r, m, z]);
-        out[x] = rounded(sum, 36 * (EDGE * EDGE) as i64) as i32;
+        let sum = by_steps(place, [s[x], u[x], v[x], r, m, z]);
+        out[x] = stored(rounded(sum, 36 * (EDGE * EDGE) as i64) as i32);
     }
     Ok(())
 }
 
-/// The formula as it is written.
-fn by_formula([a, b, g]: [i64; 3], [s, u, v, r, m, z]: [i64; 6]) -> i64 {
-    a * a * s + 2 * a * b * u + 2 * a * g * v + b * b * r + 2 * b * g * m + g * g * z
+/// Whether the place within a cell is in its down triangle, as 0 or 1, and the corners' shares.
+pub fn shares(f: usize, g: usize) -> (usize, [usize; 3]) {
+    if f + g <= EDGE {
+        (0, [EDGE - f - g, f, g])
+    } else {
+        (1, [EDGE - g, EDGE - f, f + g - EDGE])
+    }
 }
 
-/// De Casteljau's averages.
-fn by_steps([a, b, g]: [i64; 3], [s, u, v, r, m, z]: [i64; 6]) -> i64 {
+/// De Casteljau's averages: the point's value times 36 times 1,024 squared in one coordinate, from
+/// the numbers A, B, G of the place and 36 times the Bézier points s, u, v, r, m, z.
+pub fn by_steps([a, b, g]: [i64; 3], [s, u, v, r, m, z]: [i64; 6]) -> i64 {
     let average = |x, y, z| a * x + b * y + g * z;
     let (first, second, third) = (average(s, u, v), average(u, r, m), average(v, m, z));
     average(first, second, third)

@@ -8,7 +8,7 @@ use std::array;
 use ups::{detail_numbers, net_numbers, DETAIL_RECORD};
 
 /// The greatest size of a detail.
-const DETAIL_LIMIT: i32 = 2 * LIMIT;
+pub const DETAIL_LIMIT: i32 = 2 * LIMIT;
 
 /// The details of a vertex's three control points.
 type Details = [[i32; DETAIL_RECORD / 3]; 3];
@@ -22,8 +22,23 @@ fn check_fine((w, h): Size) -> Result<(), Refusal> {
     Ok(())
 }
 
+/// The faults of sizes and of the lengths of what is lent.
+pub fn check_split(
+    net: &[i32],
+    (w, h): Size,
+    (coarse_len, details_len): (usize, usize),
+) -> Result<(), Refusal> {
+    check_fine((w, h))?;
+    let coarse_numbers = net_numbers(w / 2 + 1, h / 2 + 1);
+    check_lengths(net, (w, h), coarse_len, coarse_numbers)?;
+    if details_len < detail_numbers(w, h) {
+        return Err(5);
+    }
+    Ok(())
+}
+
 /// It goes through all numbers: without an early end the compiler tests several at once.
-fn all_within(limit: i32, numbers: &[i32]) -> bool {
+pub fn all_within(limit: i32, numbers: &[i32]) -> bool {
     let limits = -limit..=limit;
     numbers.iter().fold(true, |all, x| all & limits.contains(x))
 }
@@ -36,13 +51,8 @@ pub fn split(
     details: &mut [i32],
     row: Row,
 ) -> Result<(), Refusal> {
-    check_fine(size)?;
+    check_split(net, size, (coarse.len(), details.len()))?;
     let (w, h) = size;
-    let (coarse_w, coarse_h) = (w / 2 + 1, h / 2 + 1);
-    check_lengths(net, size, coarse.len(), net_numbers(coarse_w, coarse_h))?;
-    if details.len() < detail_numbers(w, h) {
-        return Err(5);
-    }
     let net = &net[..net_numbers(w, h)];
     if !all_within(LIMIT, net) {
         return Err(3);
@@ -58,7 +68,7 @@ pub fn split(
     let targets = triangles_mut(details).chunks_exact_mut(w);
     let mut fine = vec![Triangle::default(); w];
     for (y, (source, target)) in net.chunks_exact(w).zip(targets).enumerate() {
-        row(coarse, coarse_w, y, &mut fine);
+        row(coarse, w / 2 + 1, y, &mut fine);
         for ((details, vertex), refined) in target.iter_mut().zip(source).zip(&fine) {
             *details = difference(vertex, refined);
         }
@@ -92,14 +102,8 @@ pub fn merge(
     out: &mut [i32],
     row: Row,
 ) -> Result<(), Refusal> {
-    let (w, h) = size;
-    check_size(w, h)?;
-    let (wide, high) = refined(size, 1);
-    check_size(wide, high).map_err(|_| 4_u32)?;
-    let count = detail_numbers(wide, high);
-    let details = details.get(..count).ok_or(2_u32)?;
-    check_lengths(coarse, size, out.len(), net_numbers(wide, high))?;
-    let coarse = &coarse[..net_numbers(w, h)];
+    let (coarse, details) = merged_parts(coarse, details, size, out.len())?;
+    let (wide, _) = refined(size, 1);
     if !all_within(LIMIT, coarse) {
         return Err(3);
     }
@@ -108,12 +112,28 @@ pub fn merge(
     let targets = triangles_mut(out).chunks_exact_mut(wide);
     let sources = triangles(details).chunks_exact(wide);
     for (y, (target, source)) in targets.zip(sources).enumerate() {
-        row(coarse, w, y, target);
+        row(coarse, size.0, y, target);
         for (vertex, details) in target.iter_mut().zip(source) {
             *vertex = sum(vertex, details);
         }
     }
     Ok(())
+}
+
+/// The coarse net and the details without what follows them, and the faults of sizes and lengths.
+pub fn merged_parts<'a>(
+    coarse: &'a [i32],
+    details: &'a [i32],
+    (w, h): Size,
+    out_len: usize,
+) -> Result<(&'a [i32], &'a [i32]), Refusal> {
+    check_size(w, h)?;
+    let (wide, high) = refined((w, h), 1);
+    check_size(wide, high).map_err(|_| 4_u32)?;
+    let count = detail_numbers(wide, high);
+    let details = details.get(..count).ok_or(2_u32)?;
+    check_lengths(coarse, (w, h), out_len, net_numbers(wide, high))?;
+    Ok((&coarse[..net_numbers(w, h)], details))
 }
 
 /// Refuses details that are out of range, or with which a sum is. Refined numbers are in range,
@@ -130,10 +150,17 @@ fn check_sums(coarse: &[Triangle], size: Size, details: &[i32], row: Row) -> Res
     });
     if fits {
         Ok(())
-    } else if all_within(DETAIL_LIMIT, details) {
-        Err(11)
     } else {
-        Err(3)
+        Err(misfit(details))
+    }
+}
+
+/// The refusal where a sum is out of range.
+pub fn misfit(details: &[i32]) -> Refusal {
+    if all_within(DETAIL_LIMIT, details) {
+        11
+    } else {
+        3
     }
 }
 

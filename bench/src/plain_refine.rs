@@ -35,23 +35,49 @@ pub fn refine(
     scratch: &mut [i32],
     row: Row,
 ) -> Result<(), Refusal> {
+    check_refine(net, size, k, (out.len(), scratch.len()))?;
+    let net = &net[..net_numbers(size.0, size.1)];
+    if !net.iter().all(in_range) {
+        return Err(3);
+    }
+    to_and_fro(net, size, k, (out, scratch), |net, size, out| {
+        step(net, size, out, row);
+    });
+    Ok(())
+}
+
+/// The faults of sizes, the depth and the lengths of what is lent.
+pub fn check_refine(
+    net: &[i32],
+    size: Size,
+    k: usize,
+    (out_len, scratch_len): (usize, usize),
+) -> Result<(), Refusal> {
     check_size(size.0, size.1)?;
     if k > 6 {
         return Err(4);
     }
     let (w, h) = refined(size, k);
     check_size(w, h).map_err(|_| 4_u32)?;
-    check_lengths(net, size, out.len(), net_numbers(w, h))?;
-    if scratch.len() < scratch_numbers(size.0, size.1, k) {
+    check_lengths(net, size, out_len, net_numbers(w, h))?;
+    if scratch_len < scratch_numbers(size.0, size.1, k) {
         return Err(5);
     }
-    let net = &net[..net_numbers(size.0, size.1)];
-    if !net.iter().all(in_range) {
-        return Err(3);
-    }
+    Ok(())
+}
+
+/// Refines by k steps, each of which gets a net, its size and where the refined one is written.
+#[inline(always)]
+pub fn to_and_fro(
+    net: &[i32],
+    size: Size,
+    k: usize,
+    (out, scratch): (&mut [i32], &mut [i32]),
+    step: impl Fn(&[Triangle], Size, &mut [Triangle]),
+) {
     if k == 0 {
         out[..net.len()].copy_from_slice(net);
-        return Ok(());
+        return;
     }
     let (out, scratch) = (triangles_mut(out), triangles_mut(scratch));
     // To and fro, so that the last step writes the output.
@@ -60,12 +86,11 @@ pub fn refine(
     } else {
         (scratch, out)
     };
-    step(triangles(net), size, to, row);
+    step(triangles(net), size, to);
     for done in 1..k {
         mem::swap(&mut to, &mut from);
-        step(from, refined(size, done), to, row);
+        step(from, refined(size, done), to);
     }
-    Ok(())
 }
 
 /// The numbers by vertex and control point, of a net or of details.
@@ -141,7 +166,7 @@ fn odd_row(low: &[Triangle], high: &[Triangle], out: &mut [Triangle]) {
 /// A sum plus half of its divisor, and one less where the sum is below zero: rounded down, the
 /// quotient is the nearest, halves away from zero. Without a branch the compiler forms several at
 /// once.
-fn plus_half(sum: i32, half: i32) -> i32 {
+pub fn plus_half(sum: i32, half: i32) -> i32 {
     let below_zero = sum >> (i32::BITS - 1);
     sum + half + below_zero
 }

@@ -8,7 +8,8 @@
 //!   but the search of a call with an outline.
 //! - [`raw`] declares the library's functions and has all `unsafe` code.
 //!
-//! Outside [`raw`], every function can be called with any arguments; none panics.
+//! Outside [`raw`], every function can be called with any arguments; none panics. Splitting and
+//! merging take less than 40 KB of stack, the library's other calls less than 4 KB.
 //!
 //! ```
 //! let mut numbers = [0; ups::net_numbers(2, 2)];

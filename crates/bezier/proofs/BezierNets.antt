@@ -1,14 +1,14 @@
 -- What an accepted Bézier net is known by, and what a call leaves in its output.
 use mathlib.Core.Path.{_≡_, sym, ap, _∙_}
 use mathlib.Core.Bool.{Bool, true, false}
-use mathlib.Core.List.{List, map}
+use mathlib.Core.List.{List}
 use Prim.Native.Nat.{ℕ, _≤_, _<_, _-_}
 use lib.Dec.{ltb, lit<, leb}
 use lib.IntN.{ℤ}
 use lib.ListN.{length}
 use borrow.Author.Tests.{ltb-false, eq-eqb, ne-eqb, leb-false}
 use native.Mathlib.Omega.{arith}
-use Rattle.exact.specs.WeightedSum.{weightedSum, Within}
+use Rattle.exact.specs.WeightedSum.{Within}
 use Rattle.exact.specs.Filling.{over, runs}
 use Rattle.net.specs.Net.{Triangle, triangleAt, field}
 use Rattle.net.specs.Refusals.{badSize, shortNet}
@@ -24,7 +24,7 @@ use Rattle.triangles.proofs.CornerForm.{inForm, form-values, loaded-form, form-
 use Rattle.bezier.specs.BezierNet.{bezierPoints, bezierNumbers}
 use Rattle.bezier.specs.Refusals.{noTriangle, bezierRefusal}
 use Rattle.bezier.specs.Answers.{bezierAnswer, bezierOutput}
-use Rattle.bezier.specs.Weights.{bezierRows, threeAt}
+use Rattle.bezier.specs.Weights.{pointsOf, threeAt}
 use Rattle.bezier.proofs.Weights.{points-by-rows}
 
 -- the cell of a triangle is one of the grid, and the triangle lies in the net
@@ -67,11 +67,9 @@ formed net w t x = inForm (t .down) (controlsOf (field net w x) t) o123
 
 -- what the code reads of the loaded and reordered control triangles
 pub reordered-values : (net : List ℤ) (w : ℕ) (t : Triangle) {c d : List (List (List ℤ))} → c ≡ cornerControls net w t →
-    d ≡ reorderedControls (t .down) c →
-    (x : ℕ) {values : List ℤ} → values ≡ valuesIn d x → values ≡ formed net w t x
-reordered-values net w t ec ed x q =
-    q
-    ∙ ap (λ (d : List (List (List ℤ))). valuesIn d x) (ed ∙ ap (reorderedControls (t .down)) ec)
+    d ≡ reorderedControls (t .down) c → (x : ℕ) → valuesIn d x ≡ formed net w t x
+reordered-values net w t ec ed x =
+    ap (λ (d : List (List (List ℤ))). valuesIn d x) (ed ∙ ap (reorderedControls (t .down)) ec)
     ∙ form-values (t .down) o123 (cornerControls net w t) x
     ∙ loaded-form net w t (t .down) o123 x
 
@@ -84,9 +82,6 @@ formed-within net w i j down l e x h =
     (value-size net w i j down l e x h)
 
 -- the points of the control values are the points of the net
-abbrev pub pointsOf : List ℤ → List ℤ
-pointsOf values = map (λ (row : List ℤ). weightedSum row values) bezierRows
-
 pub points-of-net : (net : List ℤ) (w : ℕ) (t : Triangle) →
     runs 19 (threeAt (pointsOf (formed net w t 0)) (pointsOf (formed net w t 1)) (pointsOf (formed net w t 2))) ≡ bezierNumbers net w t
 points-of-net net w t =

@@ -1,9 +1,7 @@
 // Bézier nets: the 19 points of a triangle times 36, as weighted sums of its nine control values.
 use crate::answers::BezierAnswer;
-use exact::weighted_sum9;
 use net::bad_size;
 use net::short_net;
-use net::store_point;
 use triangles::coordinate_values;
 use triangles::load_triangle;
 use triangles::reorder_controls;
@@ -11,21 +9,80 @@ use triangles::triangle_beyond;
 ghost use mathlib.Core.Path.{_≡_};
 ghost use mathlib.Core.Bool.{false};
 ghost use mathlib.Core.List.{map};
-ghost use Prim.Native.Nat.{_≤_};
+ghost use Prim.Native.Nat.{ℕ, _≤_, _<_};
 ghost use lib.ListN.{length};
-ghost use Rattle.exact.specs.WeightedSum.{weightedSum, sizes, Within};
+ghost use Rattle.exact.specs.WeightedSum.{weightedSum, Within};
 ghost use Rattle.exact.specs.Filling.{over, runs};
 ghost use Rattle.net.specs.Refusals.{badSize};
+ghost use Rattle.triangles.specs.Corners.{valuesIn};
 ghost use Rattle.bezier.specs.Refusals.{noTriangle, bezierRefusal};
 ghost use Rattle.bezier.specs.Answers.{bezierOutcome, bezierAnswer, bezierOutput};
-ghost use Rattle.bezier.specs.Weights.{bezierRows, threeAt};
+ghost use Rattle.bezier.specs.Weights.{bezierRows, pointsOf, termsAt, SmallTerms, joinedTerms, placed, threeAt};
 
-// One of the 19 points times 36 in one coordinate. Its weights add up to 36, so it fits for values of the net range.
-fn ordinate(weights: [i64; 9], values: [i32; 9]) -> i32
-    requires { ⌜ (sizes weights ≤ 36) × Within 16777216 values ⌝ }
-    ensures { λ r. ⌜ r ≡ weightedSum weights values ⌝ }
+// What the points share at a corner, in one coordinate: multiples of document 01's points there. They are formed once,
+// which is faster than a sum of nine terms for each point.
+struct Terms {
+    // 36s
+    s: i32,
+    // 18u towards the next corner
+    ahead: i32,
+    // 18u towards the previous corner
+    back: i32,
+    // 3v
+    v: i32,
+}
+
+// The terms of the corner whose ck, cn and cm stand at a place of the nine values.
+fn corner_terms(values: [i32; 9], at: usize) -> Terms
+    requires { ⌜ Within 16777216 values × (at ≤ 6) ⌝ }
+    ensures { λ r. ⌜ r ≡ termsAt values at ⌝ }
 {
-    weighted_sum9(weights, values) as i32
+    let k = values[at];
+    let n = values[at + 1];
+    let m = values[at + 2];
+    let s = 12 * (k + n + m);
+    let ahead = 3 * (4 * k + n + m);
+    let back = 9 * (k + n);
+    let v = 2 * k + n;
+    Terms { s, ahead, back, v }
+}
+
+// The 19 points times 36 of the terms of the three corners, in document 01's order: s1 s2 s3, u12 u13 u21 u23 u31 u32,
+// v1 v2 v3, r12 r13 r23, m12 m13 m23, z.
+fn join_terms(p: Terms, q: Terms, t: Terms) -> [i32; 19]
+    requires { ⌜ SmallTerms p × SmallTerms q × SmallTerms t ⌝ }
+    ensures { λ r. ⌜ r ≡ joinedTerms p q t ⌝ }
+{
+    let a1 = p.ahead;
+    let a2 = q.ahead;
+    let a3 = t.ahead;
+    let b1 = p.back;
+    let b2 = q.back;
+    let b3 = t.back;
+    let v1 = p.v;
+    let v2 = q.v;
+    let v3 = t.v;
+    [
+        p.s,
+        q.s,
+        t.s,
+        2 * a1,
+        2 * b1,
+        2 * b2,
+        2 * a2,
+        2 * a3,
+        2 * b3,
+        12 * v1,
+        12 * v2,
+        12 * v3,
+        a1 + b2,
+        b1 + a3,
+        a2 + b3,
+        6 * (v1 + v2),
+        6 * (v1 + v3),
+        6 * (v2 + v3),
+        4 * (v1 + v2 + v3),
+    ]
 }
 
 // The 19 points times 36, in document 01's order and in one coordinate, of the values of ck, cn, cm at each corner.
@@ -33,47 +90,46 @@ fn ordinates(values: [i32; 9]) -> [i32; 19]
     requires { ⌜ Within 16777216 values ⌝ }
     ensures { λ r. ⌜ r ≡ map (λ row. weightedSum row values) bezierRows ⌝ }
 {
-    [
-        // s1 s2 s3
-        ordinate([12, 12, 12, 0, 0, 0, 0, 0, 0], values),
-        ordinate([0, 0, 0, 12, 12, 12, 0, 0, 0], values),
-        ordinate([0, 0, 0, 0, 0, 0, 12, 12, 12], values),
-        // u12 u13 u21 u23 u31 u32
-        ordinate([24, 6, 6, 0, 0, 0, 0, 0, 0], values),
-        ordinate([18, 18, 0, 0, 0, 0, 0, 0, 0], values),
-        ordinate([0, 0, 0, 18, 18, 0, 0, 0, 0], values),
-        ordinate([0, 0, 0, 24, 6, 6, 0, 0, 0], values),
-        ordinate([0, 0, 0, 0, 0, 0, 24, 6, 6], values),
-        ordinate([0, 0, 0, 0, 0, 0, 18, 18, 0], values),
-        // v1 v2 v3
-        ordinate([24, 12, 0, 0, 0, 0, 0, 0, 0], values),
-        ordinate([0, 0, 0, 24, 12, 0, 0, 0, 0], values),
-        ordinate([0, 0, 0, 0, 0, 0, 24, 12, 0], values),
-        // r12 r13 r23
-        ordinate([12, 3, 3, 9, 9, 0, 0, 0, 0], values),
-        ordinate([9, 9, 0, 0, 0, 0, 12, 3, 3], values),
-        ordinate([0, 0, 0, 12, 3, 3, 9, 9, 0], values),
-        // m12 m13 m23
-        ordinate([12, 6, 0, 12, 6, 0, 0, 0, 0], values),
-        ordinate([12, 6, 0, 0, 0, 0, 12, 6, 0], values),
-        ordinate([0, 0, 0, 12, 6, 0, 12, 6, 0], values),
-        // z
-        ordinate([8, 4, 0, 8, 4, 0, 8, 4, 0], values),
-    ]
+    let p = corner_terms(values, 0);
+    let q = corner_terms(values, 3);
+    let t = corner_terms(values, 6);
+    join_terms(p, q, t)
 }
 
-// The 57 numbers over the front of the output, from the 19 points in each coordinate.
-fn write_points(xs: [i32; 19], ys: [i32; 19], zs: [i32; 19], out: &mut [i32])
-    requires { ⌜ 57 ≤ length (now out) ⌝ }
-    ensures { λ r. ⌜ now (out .exit) ≡ over (runs 19 (threeAt xs ys zs)) (now (out .entry)) ⌝ }
+// One coordinate of the 19 points, number n at place 3n + x of the output.
+fn store_ordinates(numbers: [i32; 19], x: usize, out: &mut [i32])
+    requires { ⌜ (x < 3) × (57 ≤ length (now out)) ⌝ }
+    ensures { λ r. ⌜ now (out .exit) ≡ placed 19 x numbers (now (out .entry)) ⌝ }
 {
     let mut n = 0;
     while n < 19 {
-        let x = xs[n];
-        let y = ys[n];
-        let z = zs[n];
-        store_point([x, y, z], 3 * n, out);
+        let number = numbers[n];
+        out[3 * n + x] = number;
         n += 1;
+    }
+}
+
+// One coordinate of the 19 points from the control triangles of the corners, each in the order ck, cn, cm.
+fn write_coordinate(controls: [[[i32; 3]; 3]; 3], x: usize, out: &mut [i32])
+    requires { ⌜ (x < 3) × Within 16777216 (valuesIn controls x) × (57 ≤ length (now out)) ⌝ }
+    ensures { λ r. ⌜ now (out .exit) ≡ placed 19 x (pointsOf (valuesIn controls x)) (now (out .entry)) ⌝ }
+{
+    let numbers = ordinates(coordinate_values(controls, x));
+    store_ordinates(numbers, x, out);
+}
+
+// The 57 numbers over the front of the output, one coordinate of all points after the other: the 19 numbers of a
+// coordinate are stored before the next are formed, so three arrays are not held at once.
+fn write_points(controls: [[[i32; 3]; 3]; 3], out: &mut [i32])
+    requires { ⌜ ((x : ℕ) → x < 3 → Within 16777216 (valuesIn controls x)) × (57 ≤ length (now out)) ⌝ }
+    ensures { λ r. ⌜ now (out .exit)
+        ≡ over (runs 19 (threeAt (pointsOf (valuesIn controls 0)) (pointsOf (valuesIn controls 1))
+        (pointsOf (valuesIn controls 2)))) (now (out .entry)) ⌝ }
+{
+    let mut x = 0;
+    while x < 3 {
+        write_coordinate(controls, x, out);
+        x += 1;
     }
 }
 
@@ -134,9 +190,6 @@ pub fn bezier_net(
         return BezierAnswer::Refused(refusal);
     }
     let c = reorder_controls(load_triangle(net, w, i, j, down), down);
-    let xs = ordinates(coordinate_values(c, 0));
-    let ys = ordinates(coordinate_values(c, 1));
-    let zs = ordinates(coordinate_values(c, 2));
-    write_points(xs, ys, zs, out);
+    write_points(c, out);
     BezierAnswer::Done
 }

@@ -103,15 +103,18 @@ stored-details D v l at e =
 
 -- ---- details in range
 
+-- one of the first n numbers of a list, where these are within a limit
+pub front-within : (limit : ℕ) (l : List ℤ) (n : ℕ) → anyOutside limit (take n l) ≡ false → n ≤ length l → (i : ℕ) → i < n →
+    natAbs (number l i) ≤ limit
+front-within limit l n e long i here =
+    subst (λ (z : ℤ). natAbs z ≤ limit) (getD-take n l i (pos 0) here)
+    (in-range limit (take n l) e i (omega (arith, length-take n l, long, here)))
+
 -- each number of those that count, and the way back
 number-size : (details : List ℤ) (w h : ℕ) → detailsBeyond details w h ≡ false → detailNumbers w h ≤ length details →
     (n : ℕ) → n < detailNumbers w h → natAbs (number details n) ≤ 33554432
 unfolding detailsBeyond
-number-size details w h e long n here =
-    let counted = take (detailNumbers w h) details in
-    let there : n < length counted = omega (arith, length-take (detailNumbers w h) details, long, here) in
-    subst (λ (z : ℤ). natAbs z ≤ 33554432) (getD-take (detailNumbers w h) details n (pos 0) here)
-    (in-range detailLimit counted e n there)
+number-size details w h e long n here = front-within detailLimit details (detailNumbers w h) e long n here
 
 sizes-in-range : (details : List ℤ) (w h : ℕ) → detailNumbers w h ≤ length details →
     ((n : ℕ) → n < detailNumbers w h → natAbs (number details n) ≤ 33554432) → detailsBeyond details w h ≡ false

@@ -1,12 +1,12 @@
 -- Document 01, "Split, merge, clean": how lent details are stored.
 use mathlib.Core.Path.{_≡_, refl}
 use mathlib.Core.List.{List, [], _∷_, _++_, map}
-use Prim.Native.Nat.{ℕ, _+_, _*_, _≤_, _<_}
-use lib.IntN.{ℤ, pos, natAbs}
+use Prim.Native.Nat.{ℕ, _+_, _*_}
+use lib.IntN.{ℤ, pos}
 use lib.ListN.{getD, replicate}
 use lib.Seq.{sets}
 use Rattle.exact.specs.Filling.{runs}
-use Rattle.net.specs.Net.{Index, one, two, three, rank, Vertex, vertexAt, Field, recordStart, grid, number, controlPoint, entry, squares}
+use Rattle.net.specs.Net.{Index, one, two, three, rank, Vertex, vertexAt, Field, recordStart, grid, controlPoint, entry, squares}
 
 -- a detail belongs to each number of a control triangle; so many numbers a control point has in details, and so many a
 -- vertex, whatever it has in a net
@@ -52,13 +52,6 @@ storedDetails D = grid (detailRun D)
 abbrev pub detailPoints : List ℤ → ℕ → List (List ℤ) → List ℤ
 detailPoints l at d =
     sets (sets (sets l at (getD d 0 [])) (at + detailPointStride) (getD d 1 [])) (at + 2 * detailPointStride) (getD d 2 [])
-
--- the numbers of a control point, and of a control triangle, are at most n in size
-abbrev pub PointWithin : ℕ → List ℤ → Type 0
-PointWithin n p = (x : ℕ) → x < 3 → natAbs (number p x) ≤ n
-
-abbrev pub ControlsWithin : ℕ → List (List ℤ) → Type 0
-ControlsWithin n c = (k : Index) (x : ℕ) → x < 3 → natAbs (entry c k x) ≤ n
 
 -- worked cases: details of 3 by 5 are 135 numbers, and those of vertex (2, 1) begin at number 45; of a grid of width 2,
 -- y of control 2 of vertex (0, 1) is number 22; details that are 100·column + 10·row + 3·control + coordinate, of 2

@@ -13,6 +13,7 @@ pub use cleaning::clean;
 // For the crates above: callers establish the preconditions.
 pub use cleaning::too_great;
 pub use ranges::details_beyond;
+pub use ranges::first_outside;
 pub use records::DETAIL_STRIDE;
 pub use sizes::even_size;
 pub use sizes::short_details;

@@ -10,7 +10,7 @@ use native.Mathlib.Numerals.{add-one}
 use native.Mathlib.Omega.{arith}
 use native.Mathlib.Decide.{decLt}
 use lib.ListN.{length, take, drop, getD, set, length-append, length-drop, List·getD-append}
-use lib.Seq.{take-add, take-suc, take-all, sets, sets-eq, take-at, drop-at, getD-append-add, drop-append-add, drop-drop}
+use lib.Seq.{take-add, take-suc, take-all, sets, sets-eq, take-at, drop-at, getD-append-add}
 use lib.Arith.{digits-lt}
 use Rattle.exact.specs.Filling.{over, runs}
 
@@ -136,19 +136,6 @@ module _ {ℓ} {A : Type ℓ} where
       ∙ ap (λ (k : ℕ). sets (sets old 0 (runs n f)) k (f n)) (sym (zero-add (n * s)))
       ∙ runs-more old 0 n s f (λ i k. h i (omega arith))
       ∙ sets-over (runs (n + 1) f) old (omega arith)
-
-  -- what stood in the front before does not matter
-  pub over-over : (result before old : List A) → length before ≤ length result →
-      over result (over before old) ≡ over result old
-  unfolding over
-  over-over result before old h =
-      let k = length result - length before in
-      let e : length result ≡ length before + k = omega arith in
-      ap (λ (l : List A). result ++ l)
-      (ap (λ (m : ℕ). drop m (before ++ drop (length before) old)) e
-      ∙ drop-append-add before (drop (length before) old) k
-      ∙ drop-drop k (length before) old
-      ∙ ap (λ (m : ℕ). drop m old) (sym e))
 
   -- ---- lists in parts of one length
 

@@ -2,12 +2,16 @@
 -- `rounded`. Odd is for mirror images alone (document 02 d); the others hold whichever way halves go. Range and whole
 -- quotient follow from nearest.
 use mathlib.Core.Path.{_≡_, refl, sym, _∙_, ap, subst}
+use mathlib.Core.Bool.{Bool, true, false}
 use mathlib.Core.List.{List, [], _∷_, Forall₂}
-use Prim.Native.Nat.{ℕ, zero, suc, _+_, _*_, _/_, _<_, _≤_}
-use native.Mathlib.Nat.{mul-div-le, div-mul-le-self, lt-mul-div-succ, le-div-iff-mul-le, mul-div-mul-left, div-eq-of-lt, mul-pos}
+use Prim.Native.Nat.{ℕ, zero, suc, _+_, _*_, _-_, _/_, _<_, _≤_}
+use native.Mathlib.Nat.{mul-div-le, div-mul-le-self, lt-mul-div-succ, le-div-iff-mul-le, mul-div-mul-left, div-eq-of-lt, mul-pos, add-mul-div-left, div-lt-iff-lt-mul, mul-comm, zero-add, le-refl, le-trans, mul-le-mul, le-mul-of-pos-right}
 use native.Mathlib.Omega.{arith}
+use lib.Dec.{ltb}
 use lib.IntN.{ℤ, pos, negsuc, natAbs, negℤ, negℤ-negℤ, _+ℤ_, _-ℤ_, _*ℤ_, *ℤ-comm}
 use lib.Signed.{_≤ℤ_, _<ℤ_, ≤ℤ-refl}
+use mir.Val.{boolByte}
+use borrow.Author.Tests.{lt-ltb, le-ltb}
 use Rattle.exact.specs.Rounding.{floorQuotient, rounded}
 use Rattle.exact.specs.WeightedSum.{weightedSum, total}
 use Rattle.exact.proofs.Parts.{integers, sum-parts, difference-parts, negation-parts, size-parts, parts-le}
@@ -146,3 +150,72 @@ mean-range {m} {n} {ws} {vs} d p e h =
       rounded-at-least d p (subst (λ (x : ℤ). (m *ℤ x) ≤ℤ weightedSum ws vs) e (r .0)),
       rounded-at-most d p (subst (λ (x : ℤ). weightedSum ws vs ≤ℤ (n *ℤ x)) e (r .1)),
     )
+
+-- ---- raised by m divisors a numerator is not negative, and an even divisor, 2h, takes one quotient of naturals; below
+-- zero a half goes down, so one less is added there
+
+-- the quotient of a size: over 2h the half is whole
+even-size : (a h : ℕ) → (2 * a + 2 * h) / (2 * (2 * h)) ≡ (a + h) / (2 * h)
+even-size a h =
+    let top : 2 * a + 2 * h ≡ 2 * (a + h) = omega arith in
+    ap (λ (n : ℕ). n / (2 * (2 * h))) top ∙ mul-div-mul-left (a + h) (2 * h) (omega arith)
+
+-- a quotient rounded down, taken from m: what is left is rounded up
+taken-down : (x d m : ℕ) → 0 < d → x < d * m + d → (d * m + d - 1 - x) / d ≡ m - x / d
+taken-down x d m p k =
+    let q = x / d in
+    let low : d * q ≤ x = mul-div-le x d in
+    let high : x < d * q + d = omega (arith, lt-mul-div-succ x p) in
+    let most : q < m + 1 = div-lt-iff-lt-mul p .1 (omega (arith, mul-comm (m + 1) d, k)) in
+    let rest : m ≡ q + (m - q) = omega (arith, most) in
+    let parts : d * m ≡ d * q + d * (m - q) = omega (arith, ap (λ (n : ℕ). d * n) rest) in
+    let split : d * m + d - 1 - x ≡ (d * q + d - 1 - x) + d * (m - q) = omega (arith, low, high, parts) in
+    ap (λ (n : ℕ). n / d) split ∙ add-mul-div-left (d * q + d - 1 - x) (m - q) p
+    ∙ ap (λ (n : ℕ). n + (m - q)) (div-eq-of-lt (omega (arith, low, p))) ∙ zero-add (m - q)
+
+-- where the divisor times m is small, both are; and what a test gives
+pub factors-few : (h m b : ℕ) → 0 < h → 0 < m → 2 * h * m ≤ b → (2 * h ≤ b) × (2 * m ≤ b)
+factors-few h m b p q k =
+    let two : 2 ≤ 2 * h = omega (arith, p) in
+    (le-trans (le-mul-of-pos-right (2 * h) q) k, le-trans (mul-le-mul two (le-refl m)) k)
+
+pub byte-few : (b : Bool) → boolByte b ≤ 1
+byte-few true = omega arith
+byte-few false = omega arith
+
+-- the raised numerator is small, and so is its quotient, whatever is taken away
+pub raised-few : (n : ℤ) (h m above : ℕ) → natAbs n ≤ 2 * h * m → pos above ≡ n +ℤ pos (2 * h * m) →
+    above ≤ 2 * (2 * h * m)
+raised-few n h m above k e = omega (integers, e, sum-parts n (pos (2 * h * m)), size-parts n, k)
+
+pub quotient-few : (h m above below : ℕ) → 0 < h → above ≤ 2 * (2 * h * m) →
+    (above + h - below) / (2 * h) < 2 * m + 1
+quotient-few h m above below p k =
+    div-lt-iff-lt-mul (double p) .1 (omega (arith, k, double p, mul-comm (2 * h) m))
+
+pub rounded-raised : (n : ℤ) (h m above : ℕ) → 0 < h → natAbs n ≤ 2 * h * m → pos above ≡ n +ℤ pos (2 * h * m) →
+    pos ((above + h - boolByte (ltb above (2 * h * m))) / (2 * h)) -ℤ pos m ≡ rounded n (2 * h)
+unfolding rounded floorQuotient
+rounded-raised (pos a) h m above p k e =
+    let d = 2 * h in
+    let sum : above ≡ a + d * m = ap natAbs e in
+    let test : ltb above (d * m) ≡ false = le-ltb above (d * m) (omega (arith, sum)) in
+    let top : above + h - 0 ≡ (a + h) + d * m = omega (arith, sum) in
+    ap (λ (b : Bool). pos ((above + h - boolByte b) / d) -ℤ pos m) test
+    ∙ ap (λ (n : ℕ). pos (n / d) -ℤ pos m) top
+    ∙ ap (λ (n : ℕ). pos n -ℤ pos m) (add-mul-div-left (a + h) m (double p))
+    ∙ omega (integers, difference-parts (pos ((a + h) / d + m)) (pos m))
+    ∙ ap pos (sym (even-size a h))
+rounded-raised (negsuc a) h m above p k e =
+    let d = 2 * h in
+    let sum : above + suc a ≡ d * m = omega (integers, e, sum-parts (negsuc a) (pos (d * m)), k) in
+    let test : ltb above (d * m) ≡ true = lt-ltb above (d * m) (omega (arith, sum)) in
+    let x = suc a + h in
+    let top : above + h - 1 ≡ d * m + d - 1 - x = omega (arith, sum) in
+    let few : x < d * m + d = omega (arith, sum, p) in
+    let most : x / d < m + 1 = div-lt-iff-lt-mul (double p) .1 (omega (arith, mul-comm (m + 1) d, few)) in
+    ap (λ (b : Bool). pos ((above + h - boolByte b) / d) -ℤ pos m) test
+    ∙ ap (λ (n : ℕ). pos (n / d) -ℤ pos m) top
+    ∙ ap (λ (n : ℕ). pos n -ℤ pos m) (taken-down x d m (double p) few)
+    ∙ omega (integers, difference-parts (pos (m - x / d)) (pos m), negation-parts (pos (x / d)), most)
+    ∙ ap (λ (n : ℕ). negℤ (pos n)) (sym (even-size (suc a) h))

@@ -1,5 +1,5 @@
-// A weighted sum of nine signed numbers, the controls of a triangle's corners, and rounded weighted means of three and
-// six, the controls of a vertex and of an edge's two.
+// Weighted sums of three and six signed numbers, the controls of a vertex and of an edge's two ends, and the rounded
+// weighted mean of six.
 use crate::rounding::round_quotient;
 ghost use mathlib.Core.Path.{_≡_};
 ghost use Prim.Native.Nat.{_<_, _≤_, _^_};
@@ -32,22 +32,22 @@ fn weighted_mean(weights: &[i64], values: &[i32], d: u64) -> i64
     round_quotient(sum, d)
 }
 
-// The sum of nine terms, for other crates. The precondition is a bound on the weights alone.
-pub fn weighted_sum9(weights: [i64; 9], values: [i32; 9]) -> i64
+// The sum of three and of six terms, for other crates. The precondition is a bound on the weights alone.
+pub fn weighted_sum3(weights: [i64; 3], values: [i32; 3]) -> i64
     requires { ⌜ Within (2 ^ 26) weights ⌝ }
     ensures { λ r. ⌜ Summed weights values r ⌝ }
 {
     weighted_sum(&weights, &values)
 }
 
-// The mean of three and six terms, with the weights' bound and a divisor from 1 to 2 to the power 61.
-pub fn weighted_mean3(weights: [i64; 3], values: [i32; 3], d: u64) -> i64
-    requires { ⌜ Within (2 ^ 26) weights × (0 < d) × (d ≤ 2 ^ 61) ⌝ }
-    ensures { λ r. ⌜ r ≡ rounded (weightedSum weights values) d ⌝ }
+pub fn weighted_sum6(weights: [i64; 6], values: [i32; 6]) -> i64
+    requires { ⌜ Within (2 ^ 26) weights ⌝ }
+    ensures { λ r. ⌜ Summed weights values r ⌝ }
 {
-    weighted_mean(&weights, &values, d)
+    weighted_sum(&weights, &values)
 }
 
+// The mean of six terms, with the weights' bound and a divisor from 1 to 2 to the power 61.
 pub fn weighted_mean6(weights: [i64; 6], values: [i32; 6], d: u64) -> i64
     requires { ⌜ Within (2 ^ 26) weights × (0 < d) × (d ≤ 2 ^ 61) ⌝ }
     ensures { λ r. ⌜ r ≡ rounded (weightedSum weights values) d ⌝ }

@@ -33,7 +33,7 @@ use Rattle.steps.proofs.StoredNets.{stored-length, stored-field, stored-same, s
 use Rattle.refine.specs.Refusals.{tooDeep, tooShort, sizeFaults, netFaults}
 use Rattle.refine.specs.Answers.{refusalOf}
 use Rattle.refine.proofs.Depths.{good-depth}
-use Rattle.refine.proofs.RefinedNets.{refined-accepted}
+use Rattle.steps.proofs.RefinedNets.{refined-accepted}
 use Rattle.hermite.specs.Given.{vectorsAt, pointOf, givenP, givenT1, givenT2}
 use Rattle.hermite.specs.HermiteNet.{hermiteFields, hermiteNet}
 use Rattle.hermite.specs.Answers.{givenRefusalOf, givenOutput}

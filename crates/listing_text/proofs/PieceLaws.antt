@@ -1,24 +1,25 @@
 -- The pieces of a listing: an accepted net refuses no vertex its point, which vertex a piece is of, and that the
--- pieces are the listing.
+-- pieces are the listing, also in parts.
 use mathlib.Core.Path.{_≡_, sym, ap, _∙_}
 use mathlib.Core.List.{List, [], _∷_, _++_, append-nil, append-assoc}
-use Prim.Native.Nat.{ℕ, zero, suc, _+_, _-_, _*_, _/_, _%_, _<_}
-use native.Mathlib.Nat.{add-zero, add-suc, mul-zero, mul-suc, mul-comm, mod-lt, div-lt-iff-lt-mul}
+use Prim.Native.Nat.{ℕ, zero, suc, _+_, _-_, _*_, _/_, _%_, _≤_, _<_}
+use native.Mathlib.Nat.{add-zero, zero-add, add-suc, mul-zero, mul-suc, mul-comm, mod-lt, div-lt-iff-lt-mul}
 use native.Mathlib.Omega.{arith}
 use lib.Arith.{digits-div, digits-mod}
 use lib.Dec.{lit<}
 use lib.IntN.{ℤ, pos}
-use lib.ListN.{getD}
-use Rattle.exact.specs.Filling.{runs}
-use Rattle.exact.proofs.FillingLaws.{runs-same}
+use lib.ListN.{length, take, drop, getD, length-drop}
+use lib.Seq.{take-all, drop-length, drop-drop, sets, sets-eq}
+use Rattle.exact.specs.Filling.{over, runs}
+use Rattle.exact.proofs.FillingLaws.{runs-suc, runs-same}
 use Rattle.net.specs.Refusals.{AcceptedNet}
 use Rattle.net.proofs.Faults.{answered, not-accepted}
 use Rattle.surface.specs.SurfacePoint.{coordinate, surfacePoint}
 use Rattle.surface.specs.Refusals.{pointRefusal}
 use Rattle.surface.specs.Answers.{pointAnswer}
 use Rattle.surface.proofs.Accepted.{point-not-refused}
-use Rattle.listing_text.specs.Listing.{headLine, vertexLine, listing, pieceText}
-use Rattle.listing_text.specs.Promises.{PiecesList}
+use Rattle.listing_text.specs.Listing.{headLine, vertexLine, listing, pieceText, piecesText}
+use Rattle.listing_text.specs.Promises.{PiecesList, PiecesInParts}
 
 -- ---- the point of a vertex
 
@@ -104,3 +105,60 @@ pieces-list net w h =
     ap (λ (k : ℕ). runs k (pieceText net w h)) one-more
     ∙ runs-first (w * h) (pieceText net w h)
     ∙ ap (λ (l : List ℕ). headLine w h ++ l) (runs-rows w h (vertexLine net w h))
+
+-- ---- pieces that are collected
+
+-- a text over the front of the part that begins at a place is stored from that place on
+pub stored-in-part : (l text : List ℕ) (at : ℕ) → at + length text ≤ length l →
+    take at l ++ (over text (take (length l - at) (drop at l)) ++ drop (length l - at) (drop at l)) ≡ sets l at text
+unfolding over
+stored-in-part l text at h =
+    let long = length-drop at l in
+    let part : take (length l - at) (drop at l) ≡ drop at l =
+    take-all (length l - at) (drop at l) (omega (arith, long)) in
+    let none : drop (length l - at) (drop at l) ≡ [] =
+    ap (λ (k : ℕ). drop k (drop at l)) (sym long) ∙ drop-length (drop at l) in
+    ap (λ (r : List ℕ). take at l ++ r)
+    ((λ t. (text ++ drop (length text) (part t)) ++ none t)
+    ∙ append-nil (text ++ drop (length text) (drop at l))
+    ∙ ap (λ (r : List ℕ). text ++ r) (drop-drop (length text) at l))
+    ∙ sym (append-assoc (take at l) text (drop (at + length text) l))
+    ∙ sym (sets-eq text l at h)
+
+module _ (net : List ℤ) (w h : ℕ) where
+  pub pieces-none : (n : ℕ) → [] ≡ piecesText net w h n n
+  unfolding piecesText runs
+  pieces-none n =
+      let none : 0 ≡ n - n = omega arith in
+      ap (λ (k : ℕ). runs k (λ i. pieceText net w h (n + i))) none
+
+  pub pieces-more : (m n : ℕ) → m ≤ n → piecesText net w h m n ++ pieceText net w h n ≡ piecesText net w h m (n + 1)
+  unfolding piecesText
+  pieces-more m n k =
+      let f : ℕ → List ℕ = λ i. pieceText net w h (m + i) in
+      let last : n ≡ m + (n - m) = omega arith in
+      let more : n - m + 1 ≡ n + 1 - m = omega arith in
+      ap (λ (j : ℕ). runs (n - m) f ++ pieceText net w h j) last
+      ∙ sym (runs-suc (n - m) f)
+      ∙ ap (λ (j : ℕ). runs j f) more
+
+  -- from one piece up to another, and from there on
+  pieces-join : (l m n : ℕ) → l ≤ m → m ≤ n → piecesText net w h l m ++ piecesText net w h m n ≡ piecesText net w h l n
+  unfolding piecesText
+  pieces-join l m n a b =
+      let f : ℕ → List ℕ = λ i. pieceText net w h (l + i) in
+      let on : (i : ℕ) → m + i ≡ l + (m - l + i) = λ i. omega arith in
+      let all : m - l + (n - m) ≡ n - l = omega arith in
+      ap (λ (g : ℕ → List ℕ). runs (m - l) f ++ runs (n - m) g) (λ t i. pieceText net w h (on i t))
+      ∙ sym (runs-add (m - l) (n - m) f)
+      ∙ ap (λ (j : ℕ). runs j f) all
+
+  -- from the first on
+  pieces-first : (n : ℕ) → piecesText net w h 0 n ≡ runs n (pieceText net w h)
+  unfolding piecesText
+  pieces-first n =
+      let all : n - 0 ≡ n = omega arith in
+      λ t. runs (all t) (λ i. pieceText net w h (zero-add i t))
+
+pub pieces-in-parts : PiecesInParts
+pieces-in-parts net w h = (pieces-join net w h, pieces-first net w h (1 + w * h) ∙ pieces-list net w h)

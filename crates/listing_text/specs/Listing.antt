@@ -3,7 +3,7 @@
 -- and the number'. Texts are bytes in ASCII.
 use mathlib.Core.Path.{_≡_, refl}
 use mathlib.Core.List.{List, [], _∷_, _++_}
-use Prim.Native.Nat.{ℕ, zero, suc, _*_, _/_, _%_}
+use Prim.Native.Nat.{ℕ, zero, suc, _+_, _-_, _*_, _/_, _%_}
 use lib.IntN.{ℤ, pos, negsuc}
 use lib.ListN.{length}
 use Rattle.exact.specs.Rounding.{rounded, floorQuotient}
@@ -64,10 +64,14 @@ unfoldable pub pieceText : List ℤ → ℕ → ℕ → ℕ → List ℕ
 pieceText net w h zero = headLine w h
 pieceText net w h (suc n) = vertexLine net w h (n % w) (n / w)
 
+-- the pieces from `first` up to `next`, which is not among them, one after the other
+unfoldable pub piecesText : List ℤ → ℕ → ℕ → ℕ → ℕ → List ℕ
+piecesText net w h first next = runs (next - first) (λ i. pieceText net w h (first + i))
+
 -- worked cases: the first lines of nets of 3 by 3 and of 3 by 15, a line of document 01's listing, a line with numbers
 -- below zero, a longest line, and the line of refusal 12; piece 6 of a net of 3 by 3 is the line of vertex (2, 1), and
--- piece 4 of a net of 2 by 3 that of vertex (1, 1); the line of vertex (1, 2) of the net of 2 by 3 whose numbers are
--- the squares. `DoorListing.antt` has the whole listing of the door corner.
+-- piece 4 of a net of 2 by 3 that of vertex (1, 1); pieces 3 and 4 of that net, and no pieces; the line of vertex (1,
+-- 2) of the net of 2 by 3 whose numbers are the squares. `DoorListing.antt` has the whole listing of the door corner.
 head-of-three : headLine 3 3 ≡ 110 ∷ 101 ∷ 116 ∷ 32 ∷ 51 ∷ 32 ∷ 51 ∷ 10 ∷ []
 unfolding headLine decimal digitsOf
 head-of-three = refl
@@ -105,6 +109,12 @@ pieces :
     × (pieceText net 2 3 4 ≡ vertexLine net 2 3 1 1)
 unfolding pieceText
 pieces net = (refl, refl, refl)
+
+two-pieces :
+    (net : List ℤ) →
+    (piecesText net 2 3 3 5 ≡ vertexLine net 2 3 0 1 ++ vertexLine net 2 3 1 1) × (piecesText net 2 3 3 3 ≡ [])
+unfolding piecesText pieceText runs
+two-pieces net = (refl, refl)
 
 line-of-a-vertex : vertexLine (squares 54) 2 3 1 2 ≡ pointLine 1 2 (pos 2310) (pos 2407) (pos 2506)
 unfolding coordinate spline rounded floorQuotient controlTriangle controlPoint

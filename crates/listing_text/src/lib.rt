@@ -4,4 +4,5 @@ mod pieces;
 
 // For the listing program, which lends room for a line.
 pub use lines::list_refusal;
-pub use pieces::list_piece;
+pub use pieces::Collected;
+pub use pieces::list_pieces;

@@ -1,35 +1,39 @@
--- The sums vertex by vertex, what merging leaves in its output, and what is known where nothing is refused.
-use mathlib.Core.Path.{_≡_, refl, sym, ap, subst, _∙_}
+-- The sums row by row, and what is known where nothing is refused.
+use mathlib.Core.Path.{_≡_, sym, ap, subst, _∙_}
 use mathlib.Core.Bool.{false}
 use mathlib.Core.List.{List, [], _∷_, _++_}
-use Prim.Native.Nat.{ℕ, _+_, _-_, _*_, _/_, _%_, _≤_, _<_}
-use native.Mathlib.Nat.{le-trans}
+use Prim.Native.Nat.{ℕ, _+_, _*_, _≤_, _<_}
 use native.Mathlib.Omega.{arith}
 use lib.Dec.{lit<}
-use lib.IntN.{ℤ, pos, _+ℤ_}
-use lib.ListN.{length, drop}
-use lib.Seq.{getD-append-add, getD-drop}
+use lib.IntN.{ℤ, pos, negℤ, natAbs, _+ℤ_}
+use lib.ListN.{length, take}
+use lib.Seq.{sets, length-sets}
 use borrow.Author.Tests.{ltb-false, le-ltb}
-use Rattle.exact.specs.Filling.{over, runs}
-use Rattle.exact.proofs.FillingLaws.{length-runs, over-over}
-use Rattle.net.specs.Net.{Vertex, vertexAt, vertexOf, numbers, start, stride, pointStride, number, controlPoint, controlTriangle}
-use Rattle.net.specs.Refusals.{badSize, netLimit, anyBeyond, netBeyond, shortNet, AcceptedNet}
-use Rattle.net.proofs.Accepted.{accepted-over, accepted-vertex}
+use Rattle.exact.specs.Filling.{over}
+use Rattle.exact.proofs.FillingLaws.{runs-same}
+use Rattle.exact.proofs.Order.{size-low, size-high, size-between, size-sum}
+use Rattle.net.specs.Net.{Index, one, two, three, rank, vertexAt, Field, field, numbers, start, stride, pointStride}
+use Rattle.net.specs.Refusals.{badSize, netLimit, anyOutside, anyBeyond, netBeyond, shortNet, AcceptedNet}
+use Rattle.net.proofs.Accepted.{accepted-over}
 use Rattle.net.proofs.Faults.{or-no, or-none, clear-none, none-clear, when-accepted}
-use Rattle.net.proofs.Grids.{vertex-in-grid, record-place}
-use Rattle.subdivision.specs.Refinement.{refinedSide}
-use Rattle.steps.specs.RefinedNet.{vertexRun, stored, refinedFields, refinedControls, refinedNet}
+use Rattle.net.proofs.Places.{good-size, vertex-ends, field-number, within-record}
+use Rattle.subdivision.specs.Refinement.{refinedSide, refinement}
+use Rattle.subdivision.specs.WeightTable.{weights, weights-pass}
+use Rattle.bounds.proofs.Distance.{our-nets}
+use Rattle.bounds.proofs.Range.{net-between}
+use Rattle.steps.specs.RefinedNet.{pointAt, vertexRun, rowRun, stored, refinedFields}
 use Rattle.steps.specs.Steps.{Depth}
 use Rattle.steps.proofs.Sides.{shallower}
-use Rattle.steps.proofs.StoredNets.{stored-length, stored-field, stored-by-number, stored-beyond, stored-same}
+use Rattle.steps.proofs.StoredNets.{stored-length, stored-by-number, stored-beyond, stored-tested, stored-fine}
+use Rattle.steps.proofs.RefinedNets.{refined-size, good-after}
+use Rattle.steps.proofs.RowBuffers.{row-field}
 use Rattle.refine.specs.Refusals.{sizeFaults}
 use Rattle.refine.proofs.Depths.{good-depth, not-deep}
-use Rattle.refine.proofs.RefinedNets.{refined-at, good-after}
-use Rattle.details.specs.Details.{ControlsWithin, detailNumbers, detailStart, detailStride, detailTriangle, detailField}
-use Rattle.details.specs.Refusals.{detailLimit, shortDetails, detailsBeyond}
-use Rattle.details.proofs.DetailLaws.{detail-ends, detail-size}
-use Rattle.merge.specs.Merge.{merged, mergedFields, mergedNet, sumFields}
-use Rattle.merge.specs.Refusals.{shortInputs, inputsBeyond, mergedBeyond, mergeFaults, mergeRefusal, Mergeable}
+use Rattle.details.specs.Details.{detailPointStride, detailNumbers, detailStart, detailField}
+use Rattle.details.specs.Refusals.{shortDetails, detailsBeyond}
+use Rattle.details.proofs.DetailLaws.{front-within, detail-number, detail-ends, within-record as within-detail}
+use Rattle.merge.specs.Merge.{merged, mergedFields, mergedNet, rowSums}
+use Rattle.merge.specs.Refusals.{shortInputs, inputsBeyond, mergedBeyond, mergeFaults, mergeRefusal, Mergeable, RowMergeable}
 use Rattle.merge.specs.Answers.{mergeRefusalOf}
 use Rattle.merge.specs.Promises.{MergedAccepted}
 
@@ -38,95 +42,93 @@ use Rattle.merge.specs.Promises.{MergedAccepted}
 pub coarse-size : {w h : ℕ} → Depth w h 1 → badSize w h ≡ false
 coarse-size d = good-after {k = 0} (shallower d)
 
--- ---- what the sums of vertex n take: their numbers lie in the slices, and in the ranges
+-- ---- rows
 
-pub detail-vertex : (details : List ℤ) (w h n : ℕ) → detailNumbers w h ≤ length details →
-    detailsBeyond details w h ≡ false → n < w * h →
-    (detailStart w (vertexOf w n) + detailStride ≤ length details)
-    × ControlsWithin detailLimit (detailTriangle details w (vertexOf w n))
-detail-vertex details w h n long fine here =
-    let v = vertex-in-grid w h n here in
-    let ends = detail-ends {w = w} {h = h} {i = n % w} {j = n / w} (v .0) (v .1) in
-    (omega (arith, ends, long), detail-size details w h fine long (n % w) (n / w) (v .0) (v .1))
+-- a refined row in a slice: its numbers, and their range
+module _ (coarse details : List ℤ) (w h : ℕ) (a : Mergeable coarse details w h) (j : ℕ) (b : j < refinedSide h) (old : List ℤ) (room : stride * refinedSide w ≤ length old) where
+  abbrev m : ℕ
+  m = refinedSide w
 
-pub net-vertex : (net : List ℤ) (w h n : ℕ) → AcceptedNet net w h → n < w * h →
-    (start w (vertexOf w n) + stride ≤ length net) × ControlsWithin netLimit (controlTriangle net w (vertexOf w n))
-net-vertex net w h n a here =
-    let v = vertex-in-grid w h n here in
-    accepted-vertex net w h a (n % w) (n / w) (v .0) (v .1)
+  abbrev row : List ℤ
+  row = sets old 0 (rowRun (refinedFields coarse w) m j)
 
-pub fine-vertex : (coarse : List ℤ) (w h n : ℕ) → AcceptedNet coarse w h → n < refinedSide w * refinedSide h →
-    (let v = vertexOf (refinedSide w) n in
-    (start w (vertexAt ((v .column + 1) / 2) ((v .row + 1) / 2)) + stride ≤ length coarse)
-    × ControlsWithin netLimit (refinedControls coarse w v))
-fine-vertex coarse w h n a here =
-    let v = vertex-in-grid (refinedSide w) (refinedSide h) n here in
-    refined-at coarse w h a (n % refinedSide w) (n / refinedSide w) (v .0) (v .1)
+  number-in : (i : ℕ) → i < m → (l : Index) (x : ℕ) → x < 3 →
+      field row m x (vertexAt i 0) l ≡ refinement (field coarse w x) (vertexAt i j) l
+  number-in i c l x d = row-field (refinedFields coarse w) m j old room i c l x d
 
--- ---- the merged net, vertex by vertex
+  pub row-mergeable : {new : List ℤ} → new ≡ row → RowMergeable new details m (refinedSide h) j
+  row-mergeable e =
+      subst (λ (r : List ℤ). RowMergeable r details m (refinedSide h) j) (sym e) (record {
+        size = good-after (a .depth);
+        lies = b;
+        room = omega (arith, length-sets old 0 (rowRun (refinedFields coarse w) m j), room);
+        small = λ i c k x d. subst (λ (z : ℤ). natAbs z ≤ netLimit) (sym (number-in i c k x d))
+            (refined-size coarse w h (a .given) 1 x i j d c b k);
+        long = a .long;
+        fine = a .fine;
+      })
 
--- the numbers of its vertex n
-abbrev pub mergedRun : List ℤ → List ℤ → ℕ → ℕ → List ℤ
-mergedRun coarse details w n = vertexRun (mergedFields coarse details w) (vertexOf (refinedSide w) n)
+  -- with the details it is the merged row
+  pub merged-row : {new : List ℤ} → new ≡ row →
+      rowRun (rowSums new details m) m j ≡ rowRun (mergedFields coarse details w) m j
+  unfolding merged
+  merged-row e =
+      ap (λ (r : List ℤ). rowRun (rowSums r details m) m j) e
+      ∙ runs-same m (λ i. vertexRun (rowSums row details m) (vertexAt i j))
+      (λ i. vertexRun (mergedFields coarse details w) (vertexAt i j)) (λ i c.
+      let same : (l : Index) (x : ℕ) → x < 3 →
+      rowSums row details m x (vertexAt i j) l ≡ mergedFields coarse details w x (vertexAt i j) l =
+      λ l x d. ap (λ (z : ℤ). z +ℤ detailField details m x (vertexAt i j) l) (number-in i c l x d) in
+      let point : (l : Index) →
+      pointAt (rowSums row details m) (vertexAt i j) l ≡ pointAt (mergedFields coarse details w) (vertexAt i j) l =
+      λ l t. same l 0 (lit< tt) t ∷ same l 1 (lit< tt) t ∷ same l 2 (lit< tt) t ∷ [] in
+      λ t. point one t ++ point two t ++ point three t)
 
-pub merged-tested : (coarse details : List ℤ) (w h : ℕ) →
-    mergedBeyond coarse details w h ≡ anyBeyond (runs (refinedSide w * refinedSide h) (mergedRun coarse details w))
-unfolding mergedNet
-merged-tested coarse details w h = stored-beyond (mergedFields coarse details w) (refinedSide w) (refinedSide h)
+-- ---- numbers of at most half of the net's limit in size
 
--- ---- details added to a net in a slice, vertex by vertex
+module _ (coarse details : List ℤ) (w h : ℕ) (a : Mergeable coarse details w h)
+    (e : anyOutside 8388608 (take (numbers w h) coarse) ≡ false)
+    (f : anyOutside 8388608 (take (detailNumbers (refinedSide w) (refinedSide h)) details) ≡ false) where
+  coarse-within : (x : ℕ) → x < 3 → (i j : ℕ) → i < w → j < h → (l : Index) →
+      natAbs (field coarse w x (vertexAt i j) l) ≤ 8388608
+  coarse-within x c i j u v l =
+      let ends = vertex-ends {w = w} {h = h} {i = i} {j = j} u v in
+      subst (λ (z : ℤ). natAbs z ≤ 8388608) (sym (field-number coarse w (vertexAt i j) l x c))
+      (front-within 8388608 coarse (numbers w h) e (ltb-false _ _ (a .given .long))
+      (start w (vertexAt i j) + (pointStride * rank l + x)) (omega (arith, ends, within-record l x c)))
 
--- the numbers of its vertex n
-abbrev pub sumRun : List ℤ → List ℤ → ℕ → ℕ → List ℤ
-sumRun net details w n = vertexRun (sumFields net details w) (vertexOf w n)
+  refined-within : (x : ℕ) → x < 3 → (i j : ℕ) → i < refinedSide w → j < refinedSide h → (l : Index) →
+      natAbs (refinement (field coarse w x) (vertexAt i j) l) ≤ 8388608
+  refined-within x c i j u v l =
+      let s = good-size w h (a .given .size) in
+      let between =
+      net-between weights weights-pass (negℤ (pos 8388608)) (pos 8388608) 1 w h (field coarse w x) (s .wide) (s .high)
+      (λ m n p q k. (
+        size-low (field coarse w x (vertexAt m n) k) (coarse-within x c m n p q k),
+        size-high (field coarse w x (vertexAt m n) k) (coarse-within x c m n p q k),
+      )) i j u v l in
+      subst (λ (F : Field). natAbs (F (vertexAt i j) l) ≤ 8388608) (our-nets 1 (field coarse w x))
+      (size-between (between .0) (between .1))
 
--- what lies over the front changes nothing after it
-number-after : (front old : List ℤ) (n : ℕ) → length front ≤ n → number (over front old) n ≡ number old n
-unfolding over
-number-after front old n h =
-    let k = n - length front in
-    let at : n ≡ length front + k = omega arith in
-    ap (number (over front old)) at
-    ∙ getD-append-add front (drop (length front) old) k (pos 0)
-    ∙ getD-drop (length front) old k (pos 0)
-    ∙ ap (number old) (sym at)
+  detail-within : (x : ℕ) → x < 3 → (i j : ℕ) → i < refinedSide w → j < refinedSide h → (l : Index) →
+      natAbs (detailField details (refinedSide w) x (vertexAt i j) l) ≤ 8388608
+  detail-within x c i j u v l =
+      let m = refinedSide w in
+      let n = refinedSide h in
+      let ends = detail-ends {w = m} {h = n} {i = i} {j = j} u v in
+      subst (λ (z : ℤ). natAbs z ≤ 8388608) (sym (detail-number details m (vertexAt i j) l x c))
+      (front-within 8388608 details (detailNumbers m n) f (a .long)
+      (detailStart m (vertexAt i j) + (detailPointStride * rank l + x)) (omega (arith, ends, within-detail l x c)))
 
-triangle-after : (front old : List ℤ) (w : ℕ) (v : Vertex) → length front ≤ start w v →
-    controlTriangle (over front old) w v ≡ controlTriangle old w v
-unfolding controlTriangle controlPoint
-triangle-after front old w v h =
-    let at : (m : ℕ) → start w v ≤ m → number (over front old) m ≡ number old m =
-    λ m k. number-after front old m (le-trans h k) in
-    let point : (m : ℕ) → start w v ≤ m → controlPoint (over front old) m ≡ controlPoint old m =
-    λ m k t. at m k t ∷ at (m + 1) (omega (arith, k)) t ∷ at (m + 2) (omega (arith, k)) t ∷ [] in
-    let first = point (start w v) (omega arith) in
-    let second = point (start w v + pointStride) (omega arith) in
-    let third = point (start w v + 2 * pointStride) (omega arith) in
-    λ t. first t ∷ second t ∷ third t ∷ []
-
--- after n vertices the next one is still that of the net
-pub next-triangle : (net details : List ℤ) (w h n : ℕ) → n < w * h →
-    controlTriangle (over (runs n (sumRun net details w)) net) w (vertexOf w n) ≡ controlTriangle net w (vertexOf w n)
-next-triangle net details w h n here =
-    triangle-after (runs n (sumRun net details w)) net w (vertexOf w n)
-    (omega (arith, length-runs n stride (sumRun net details w) (λ i k. refl), record-place stride w h n here))
-
--- details added to one refinement of the coarse net that stands in the output
-pub merged-left : (coarse details out : List ℤ) (w h : ℕ) →
-    (let mid = over (refinedNet coarse w h 1) out in
-    over (stored (sumFields mid details (refinedSide w)) (refinedSide w) (refinedSide h)) mid
-    ≡ over (mergedNet coarse details w h) out)
-unfolding refinedNet mergedNet merged
-merged-left coarse details out w h =
-    let m = refinedSide w in
-    let n = refinedSide h in
-    let F = refinedFields coarse w in
-    let G = mergedFields coarse details w in
-    let mid = over (stored F m n) out in
-    ap (λ (l : List ℤ). over l mid)
-    (stored-same (sumFields mid details m) G m n (λ x c i j a b l.
-    ap (λ (z : ℤ). z +ℤ detailField details m x (vertexAt i j) l) (stored-field F m n out i j a b l x c)))
-    ∙ over-over (stored G m n) (stored F m n) out (omega (arith, stored-length F m n, stored-length G m n))
+  pub small-merged : mergedBeyond coarse details w h ≡ false
+  unfolding mergedNet merged
+  small-merged =
+      let F = mergedFields coarse details w in
+      stored-tested F (refinedSide w) (refinedSide h)
+      ∙ stored-fine F (refinedSide w) (refinedSide h) (λ i j u v x c l.
+      let r = refinement (field coarse w x) (vertexAt i j) l in
+      let d = detailField details (refinedSide w) x (vertexAt i j) l in
+      omega (arith, size-sum r d, refined-within x c i j u v l, detail-within x c i j u v l))
 
 -- ---- where 2 and 3 do not refuse, and where nothing is refused
 

@@ -1,14 +1,14 @@
 -- Document 01, "Split, merge, clean": the net that a coarse net and details merge to.
 use mathlib.Core.Path.{_≡_, refl}
-use mathlib.Core.List.{List, [], _∷_, map}
+use mathlib.Core.List.{List, [], _∷_, _++_, map}
 use Prim.Native.Nat.{ℕ, _*_}
 use lib.IntN.{ℤ, pos, negsuc, _+ℤ_}
 use lib.ListN.{take, drop, replicate}
 use Rattle.exact.specs.Rounding.{rounded, floorQuotient}
 use Rattle.exact.specs.Filling.{runs}
-use Rattle.net.specs.Net.{Index, one, two, three, Field, field, number, entry, grid, controlPoint, controlTriangle, stride, squares}
+use Rattle.net.specs.Net.{Index, one, two, three, vertexAt, Field, field, number, entry, grid, controlPoint, controlTriangle, stride, squares}
 use Rattle.subdivision.specs.Refinement.{refinedSide, refinement, exactRefinement}
-use Rattle.steps.specs.RefinedNet.{Fields, stored}
+use Rattle.steps.specs.RefinedNet.{Fields, vertexRun, stored}
 use Rattle.details.specs.Details.{detailTriangle, detailField}
 
 -- 'adds details of the fine size to one refinement of coarse': each refined value is rounded first, and the detail is
@@ -24,9 +24,9 @@ mergedFields coarse details w x = merged (field coarse w x) (detailField details
 unfoldable pub mergedNet : List ℤ → List ℤ → ℕ → ℕ → List ℤ
 mergedNet coarse details w h = stored (mergedFields coarse details w) (refinedSide w) (refinedSide h)
 
--- details of width w and height h added to a net that stands in a slice
-abbrev pub sumFields : List ℤ → List ℤ → ℕ → Fields
-sumFields net details w x v k = field net w x v k +ℤ detailField details w x v k
+-- details of width w added to a refined row that stands in a slice of its own
+abbrev pub rowSums : List ℤ → List ℤ → ℕ → Fields
+rowSums row details w x v k = field row w x (vertexAt (v .column) 0) k +ℤ detailField details w x v k
 
 -- the sums at one vertex, on control triangles by value
 abbrev pub sumPoint : List ℤ → List ℤ → List ℤ
@@ -40,7 +40,7 @@ sums a b =
 -- ---- worked cases
 
 -- of the net of 2 by 3 whose numbers are the squares and of details 0, 1000, 2000, .., the records of vertices (0, 0),
--- (1, 3) and (2, 4) of the 3 by 5; the same details added to a net of sevens that stands in a slice; sums of numbers
+-- (1, 3) and (2, 4) of the 3 by 5; the same details, of width 2, added to a row of sevens and eights; sums of numbers
 -- that all differ
 abbrev thousands : ℕ → List ℤ
 thousands n = runs n (λ i. pos (1000 * i) ∷ [])
@@ -58,11 +58,11 @@ of-squares :
 unfolding mergedNet merged stored grid runs refinement exactRefinement rounded floorQuotient detailTriangle controlTriangle controlPoint
 of-squares = (refl, refl, refl)
 
-in-a-slice :
-    record3 (stored (sumFields (replicate 36 (pos 7)) (thousands 36) 2) 2 2) 3
-    ≡ map pos (27007 ∷ 28007 ∷ 29007 ∷ 30007 ∷ 31007 ∷ 32007 ∷ 33007 ∷ 34007 ∷ 35007 ∷ [])
-unfolding stored grid runs detailTriangle controlTriangle controlPoint
-in-a-slice = refl
+in-a-row :
+    vertexRun (rowSums (replicate 9 (pos 7) ++ replicate 9 (pos 8)) (thousands 36) 2) (vertexAt 1 1)
+    ≡ map pos (27008 ∷ 28008 ∷ 29008 ∷ 30008 ∷ 31008 ∷ 32008 ∷ 33008 ∷ 34008 ∷ 35008 ∷ [])
+unfolding runs detailTriangle controlTriangle controlPoint
+in-a-row = refl
 
 of-a-point : sumPoint (pos 3 ∷ pos 6 ∷ pos 9 ∷ []) (pos 1 ∷ negsuc 6 ∷ pos 6 ∷ []) ≡ pos 4 ∷ negsuc 0 ∷ pos 15 ∷ []
 of-a-point = refl

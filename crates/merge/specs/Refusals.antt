@@ -3,14 +3,14 @@
 use mathlib.Core.Path.{_≡_, refl}
 use mathlib.Core.Bool.{Bool, true, false, _||_}
 use mathlib.Core.List.{List, [], _∷_, _++_}
-use Prim.Native.Nat.{ℕ, _-_, _≤_}
+use Prim.Native.Nat.{ℕ, _*_, _-_, _≤_, _<_}
 use lib.Dec.{ltb}
 use lib.IntN.{ℤ, pos}
 use lib.ListN.{length, replicate, set}
 use Rattle.exact.specs.Rounding.{rounded, floorQuotient}
 use Rattle.exact.specs.Filling.{runs}
-use Rattle.net.specs.Net.{numbers, grid, controlPoint, controlTriangle}
-use Rattle.net.specs.Refusals.{Fault, firstFault, shortNet, netBeyond, AcceptedNet, tooLarge, tooFew}
+use Rattle.net.specs.Net.{vertexAt, stride, numbers, grid, controlPoint, controlTriangle}
+use Rattle.net.specs.Refusals.{Fault, firstFault, badSize, shortNet, netLimit, netBeyond, ControlsWithin, AcceptedNet, tooLarge, tooFew}
 use Rattle.subdivision.specs.Refinement.{refinedSide, refinement, exactRefinement}
 use Rattle.steps.specs.RefinedNet.{stored}
 use Rattle.steps.specs.Steps.{Depth}
@@ -50,6 +50,15 @@ pub record Mergeable (coarse details : List ℤ) (w h : ℕ) : Type 0 where
   pub given : AcceptedNet coarse w h
   pub long : detailNumbers (refinedSide w) (refinedSide h) ≤ length details
   pub fine : detailsBeyond details (refinedSide w) (refinedSide h) ≡ false
+
+-- the same of row j of the fine net, of width w and height h, and of a refined row in a slice of its own
+pub record RowMergeable (row details : List ℤ) (w h j : ℕ) : Type 0 where
+  pub size : badSize w h ≡ false
+  pub lies : j < h
+  pub room : stride * w ≤ length row
+  pub small : (i : ℕ) → i < w → ControlsWithin netLimit (controlTriangle row w (vertexAt i 0))
+  pub long : detailNumbers w h ≤ length details
+  pub fine : detailsBeyond details w h ≡ false
 
 -- ---- worked cases
 

@@ -1,14 +1,13 @@
 // Merging: nothing is written before it is known that nothing is refused.
 use crate::answers::MergeAnswer;
-use crate::sums::add_details;
 use crate::sums::merged_beyond;
+use crate::sums::store_merged;
 use details::details_beyond;
 use details::short_details;
 use net::STRIDE;
 use net::net_beyond;
 use net::short_net;
 use refine::size_refusal;
-use steps::refine_once;
 ghost use mathlib.Core.Path.{_≡_};
 ghost use mathlib.Core.Bool.{false};
 ghost use Rattle.net.specs.Refusals.{firstFault};
@@ -78,8 +77,7 @@ pub fn merge(coarse: &[i32], details: &[i32], w: usize, h: usize, out: &mut [i32
 {
     let refusal = merge_refusal(coarse, details, w, h, out.len());
     if refusal == 0 {
-        refine_once(coarse, w, h, out);
-        add_details(details, 2 * w - 1, 2 * h - 1, out);
+        store_merged(coarse, details, w, h, out);
         MergeAnswer::Done
     } else {
         MergeAnswer::Refused(refusal)

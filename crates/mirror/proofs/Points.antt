@@ -42,7 +42,7 @@ use Rattle.subdivision.specs.Refinement.{sideAfter}
 use Rattle.refine.specs.Refusals.{tooDeep, tooShort}
 use Rattle.refine.specs.Answers.{refineOutput}
 use Rattle.refine.proofs.Depths.{good-depth}
-use Rattle.refine.proofs.RefinedNets.{good-after}
+use Rattle.steps.proofs.RefinedNets.{good-after}
 use Rattle.refined_points.specs.Refusals.{offGrid}
 use Rattle.refined_points.specs.Answers.{refusalAt, refinedSurfacePoint, refinedPointAnswer}
 use Rattle.outlined_refine.specs.Answers.{shortOf}

@@ -23,7 +23,7 @@ use Rattle.net.proofs.Ranges.{front-in-range}
 use Rattle.subdivision.specs.Refinement.{refinement}
 use Rattle.steps.specs.RefinedNet.{Fields, stored, refinedNet}
 use Rattle.steps.proofs.StoredNets.{stored-length, stored-fine, stored-field, stored-same, no-step}
-use Rattle.refine.proofs.RefinedNets.{refined-size}
+use Rattle.steps.proofs.RefinedNets.{refined-size}
 use Rattle.details.specs.Details.{detailNumbers, detailPointStride, detailStart, detailField}
 use Rattle.details.specs.Refusals.{detailsBeyond}
 use Rattle.details.specs.Cleaning.{Cleaned, cleanOutput}

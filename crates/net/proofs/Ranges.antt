@@ -68,6 +68,11 @@ module _ (limit : ℕ) where
       ap (anyOutside limit) (runs-suc n f) ∙ any-append (runs n f) (f n)
       ∙ sym (or-no (anyOutside limit (runs n f)) (anyOutside limit (f n)) e (sym g))
 
+  -- collected without an early return
+  pub any-collected : (n : ℕ) (f : ℕ → List ℤ) →
+      anyOutside limit (runs (n + 1) f) ≡ (anyOutside limit (runs n f) || anyOutside limit (f n))
+  any-collected n f = ap (anyOutside limit) (runs-suc n f) ∙ any-append (runs n f) (f n)
+
   pub any-in-runs : (n : ℕ) (f : ℕ → List ℤ) (i : ℕ) → i < n → anyOutside limit (f i) ≡ true →
       true ≡ anyOutside limit (runs n f)
   unfolding runs
@@ -94,13 +99,6 @@ module _ (limit : ℕ) where
       let z = getD l i (pos 0) in
       simp unary-clauses (ap (anyOutside limit) (take-suc l i (pos 0) h)) ∙ any-append (take i l) (z ∷ [])
       ∙ ap (λ (t : Bool). anyOutside limit (take i l) || t) (or-false (outside limit z))
-
-  pub any-longer : (l : List ℤ) (a b : ℕ) → a ≤ b → anyOutside limit (take a l) ≡ true →
-      true ≡ anyOutside limit (take b l)
-  any-longer l a b h e =
-      let rest : a + (b - a) ≡ b = omega arith in
-      or-yes (anyOutside limit (take a l)) (anyOutside limit (take (b - a) (drop a l))) e ∙ sym (any-front l a (b - a))
-      ∙ ap (λ (k : ℕ). anyOutside limit (take k l)) rest
 
 -- ---- a whole net: any part of the numbers of a net in range is, and a net is in range where its first numbers are
 

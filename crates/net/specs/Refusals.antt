@@ -2,12 +2,12 @@
 use mathlib.Core.Path.{_≡_, refl}
 use mathlib.Core.Bool.{Bool, true, false, _||_, cond}
 use mathlib.Core.List.{List, [], _∷_, _++_}
-use Prim.Native.Nat.{ℕ, _-_}
+use Prim.Native.Nat.{ℕ, _-_, _≤_, _<_}
 use lib.Dec.{leb, ltb, eqb}
 use lib.ListN.{length, replicate, getD, set, take}
 use lib.IntN.{ℤ, pos, negsuc, natAbs}
 use Rattle.exact.specs.Filling.{over}
-use Rattle.net.specs.Net.{vertexAt, numbers, vertexNumbers, squares}
+use Rattle.net.specs.Net.{Index, vertexAt, numbers, number, entry, vertexNumbers, squares}
 
 -- a fault: whether it is there, and its number
 abbrev pub Fault : Type 0
@@ -72,6 +72,13 @@ anyBeyond = anyOutside netLimit
 -- of a control triangle
 abbrev pub controlsBeyond : List (List ℤ) → Bool
 controlsBeyond c = anyBeyond (getD c 0 [] ++ getD c 1 [] ++ getD c 2 [])
+
+-- the other way round: the numbers of a control point, and of a control triangle, are at most n in size
+abbrev pub PointWithin : ℕ → List ℤ → Type 0
+PointWithin n p = (x : ℕ) → x < 3 → natAbs (number p x) ≤ n
+
+abbrev pub ControlsWithin : ℕ → List (List ℤ) → Type 0
+ControlsWithin n c = (k : Index) (x : ℕ) → x < 3 → natAbs (entry c k x) ≤ n
 
 -- of a whole net: one of its first numbers, those of its vertices
 unfoldable pub netBeyond : List ℤ → ℕ → ℕ → Bool

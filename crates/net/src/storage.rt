@@ -3,8 +3,8 @@ use crate::records::POINT_STRIDE;
 use crate::records::STRIDE;
 ghost use mathlib.Core.Path.{_≡_};
 ghost use mathlib.Core.Bool.{false};
-ghost use Prim.Native.Nat.{_+_, _≤_, _<_, _*_};
-ghost use lib.ListN.{length, take};
+ghost use Prim.Native.Nat.{_+_, _≤_};
+ghost use lib.ListN.{length};
 ghost use lib.Seq.{sets};
 ghost use Rattle.net.specs.Net.{controlPoint, controlTriangle, vertexAt, stride, numbers, start, vertexNumbers};
 ghost use Rattle.net.specs.Refusals.{badSize, beyond, anyBeyond, controlsBeyond, netBeyond};
@@ -53,8 +53,8 @@ pub fn number_beyond(z: i32) -> bool
     if z < -16777216 { true } else { 16777216 < z }
 }
 
-// Whether one of the numbers is. No early return, so that the loop over a vertex's nine numbers becomes straight code
-// without branches.
+// Whether one of the numbers is. No early return: the compiler tests several at once, and a vertex's nine numbers
+// without a branch.
 pub fn any_beyond(numbers: &[i32]) -> bool
     ensures { λ r. ⌜ r ≡ anyBeyond (now (numbers .entry)) ⌝ }
 {
@@ -79,30 +79,10 @@ fn point_beyond(point: [i32; 3]) -> bool
 pub fn controls_beyond(c: [[i32; 3]; 3]) -> bool
     ensures { λ r. ⌜ r ≡ controlsBeyond c ⌝ }
 {
-    if point_beyond(c[0]) {
-        return true;
-    }
-    if point_beyond(c[1]) {
-        return true;
-    }
-    point_beyond(c[2])
-}
-
-// Whether one of the numbers of the first n vertices is. A vertex's part at a time: its length is known, so the loop
-// over it is written out.
-fn first_beyond(net: &[i32], n: usize) -> bool
-    requires { ⌜ stride * n ≤ length (now net) ⌝ }
-    ensures { λ r. ⌜ r ≡ anyBeyond (take (stride * n) (now (net .entry))) ⌝ }
-{
-    let mut i = 0;
-    while i < n {
-        let at = STRIDE * i;
-        if any_beyond(&net[at..at + STRIDE]) {
-            return true;
-        }
-        i += 1;
-    }
-    false
+    let one = point_beyond(c[0]);
+    let two = point_beyond(c[1]);
+    let three = point_beyond(c[2]);
+    one | (two | three)
 }
 
 // Whether one of the numbers of a whole net is. For the crates above, which have refused every other size and every net
@@ -111,7 +91,8 @@ pub fn net_beyond(net: &[i32], w: usize, h: usize) -> bool
     requires { ⌜ (badSize w h ≡ false) × (numbers w h ≤ length (now net)) ⌝ }
     ensures { λ r. ⌜ r ≡ netBeyond (now (net .entry)) w h ⌝ }
 {
-    first_beyond(net, w * h)
+    let n = STRIDE * (w * h);
+    any_beyond(&net[0..n])
 }
 
 // Whether one of the numbers of vertex (i, j) is. For the crates above, which have refused every vertex that is not in

@@ -21,7 +21,7 @@ use Rattle.outline.proofs.Connected.{connected-judged}
 use Rattle.subdivision.specs.Refinement.{sideAfter}
 use Rattle.refine.specs.Refusals.{tooDeep}
 use Rattle.refine.proofs.Depths.{good-depth}
-use Rattle.refine.proofs.RefinedNets.{good-after}
+use Rattle.steps.proofs.RefinedNets.{good-after}
 use Rattle.fine_outline.specs.FineOutline.{fineOutline}
 use Rattle.fine_outline.proofs.FineBytes.{fine-length}
 use Rattle.fine_outline.proofs.FineConnected.{fine-connected}

@@ -31,7 +31,7 @@ use Rattle.steps.specs.RefinedNet.{Fields, refinedNet}
 use Rattle.steps.proofs.StoredNets.{stored-field, refined-length}
 use Rattle.refine.specs.Refusals.{tooShort, sizeFaults, netFaults}
 use Rattle.refine.specs.Answers.{refusalOf}
-use Rattle.refine.proofs.RefinedNets.{refined-accepted}
+use Rattle.steps.proofs.RefinedNets.{refined-accepted}
 use Rattle.refine.proofs.Refinable.{Refinable, refinable-by, refine-accepted}
 use Rattle.refined_points.specs.Refusals.{offGrid, refinedPointRefusal}
 use Rattle.refined_points.specs.Answers.{refusalAt, refinedSurfacePoint, refinedPointAnswer}

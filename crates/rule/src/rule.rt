@@ -35,7 +35,7 @@ fn refined_number(row: [u8; 6], values: [i32; 6]) -> i32
 }
 
 // One coordinate of two control triangles, in the order of a row's weights.
-fn values_at(a: [[i32; 3]; 3], b: [[i32; 3]; 3], x: usize) -> [i32; 6]
+pub fn values_at(a: [[i32; 3]; 3], b: [[i32; 3]; 3], x: usize) -> [i32; 6]
     requires { ⌜ x < 3 ⌝ }
     ensures { λ r. ⌜ r ≡ six (λ k. entry a k x) (λ k. entry b k x) ⌝ }
 {

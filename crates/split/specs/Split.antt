@@ -1,15 +1,16 @@
 -- Document 01, "Split, merge, clean": the details of a net.
 use mathlib.Core.Path.{_≡_, refl}
 use mathlib.Core.List.{List, [], _∷_, _++_, map}
-use Prim.Native.Nat.{ℕ, _+_, _*_}
+use Prim.Native.Nat.{ℕ, _+_, _*_, _≤_, _<_}
 use lib.IntN.{ℤ, pos, negsuc, negℤ, _-ℤ_}
-use lib.ListN.{take, drop}
+use lib.ListN.{length, take, drop, replicate}
 use Rattle.exact.specs.Rounding.{rounded, floorQuotient}
 use Rattle.exact.specs.Filling.{runs}
-use Rattle.net.specs.Net.{Index, one, two, three, Field, field, grid, number, entry, controlPoint, controlTriangle, squares}
+use Rattle.net.specs.Net.{Index, one, two, three, vertexAt, Field, field, stride, grid, number, entry, controlPoint, controlTriangle, squares}
+use Rattle.net.specs.Refusals.{netLimit, ControlsWithin, AcceptedNet}
 use Rattle.subdivision.specs.Refinement.{refinement, exactRefinement}
 use Rattle.coarse.specs.Coarse.{coarseSide, coarsened, coarseFields}
-use Rattle.details.specs.Details.{storedDetails, detailStride}
+use Rattle.details.specs.Details.{detailRun, storedDetails, detailStride}
 
 -- 'Detail is the net minus one refinement of coarse, number by number': of one coordinate of a net and of a coarse net
 unfoldable pub detailOf : Field → Field → Field
@@ -33,10 +34,21 @@ differences a b =
     map (λ (k : Index). (entry a k 0 -ℤ entry b k 0) ∷ (entry a k 1 -ℤ entry b k 1) ∷ (entry a k 2 -ℤ entry b k 2) ∷ [])
     (one ∷ two ∷ three ∷ [])
 
+-- a net of width w less a refined row that stands in a slice of its own
+abbrev pub rowDifferences : List ℤ → List ℤ → ℕ → ℕ → Field
+rowDifferences net row w x v k = field net w x v k -ℤ field row w x (vertexAt (v .column) 0) k
+
+-- what is known of a net and of a refined row at row j
+pub record RowSplittable (net row : List ℤ) (w h j : ℕ) : Type 0 where
+  pub given : AcceptedNet net w h
+  pub lies : j < h
+  pub room : stride * w ≤ length row
+  pub small : (i : ℕ) → i < w → ControlsWithin netLimit (controlTriangle row w (vertexAt i 0))
+
 -- ---- worked cases
 
--- of the net of 3 by 5 whose numbers are the squares, the details of vertices (0, 1), (1, 3) and (2, 4); differences of
--- numbers that all differ
+-- of the net of 3 by 5 whose numbers are the squares, the details of vertices (0, 1), (1, 3) and (2, 4); vertex (1, 1)
+-- of the squares less a row of ones and twos; differences of numbers that all differ
 abbrev detailRecord : ℕ → List ℤ
 detailRecord n = take detailStride (drop (detailStride * n) (netDetails (squares 135) 3 5))
 
@@ -52,6 +64,12 @@ details-of-squares = (refl, refl, refl)
 
 of-a-point : differencePoint (pos 3 ∷ pos 6 ∷ pos 9 ∷ []) (pos 1 ∷ pos 7 ∷ pos 6 ∷ []) ≡ pos 2 ∷ negsuc 0 ∷ pos 3 ∷ []
 of-a-point = refl
+
+in-a-row :
+    detailRun (rowDifferences (squares 36) (replicate 9 (pos 1) ++ replicate 9 (pos 2)) 2) (vertexAt 1 1)
+    ≡ map pos (727 ∷ 782 ∷ 839 ∷ 898 ∷ 959 ∷ 1022 ∷ 1087 ∷ 1154 ∷ 1223 ∷ [])
+unfolding runs controlTriangle controlPoint
+in-a-row = refl
 
 nine-differences :
     differences ((pos 11 ∷ pos 22 ∷ pos 33 ∷ []) ∷ (pos 44 ∷ pos 55 ∷ pos 66 ∷ []) ∷ (pos 77 ∷ pos 88 ∷ pos 99 ∷ []) ∷ [])

@@ -5,13 +5,18 @@ use coarse::coarse_beyond;
 use coarse::store_coarse;
 use details::DETAIL_STRIDE;
 use details::even_size;
+use details::first_outside;
 use net::STRIDE;
 use net::bad_size;
 use net::net_beyond;
 use net::short_net;
 ghost use mathlib.Core.Path.{_≡_};
 ghost use mathlib.Core.Bool.{false, _||_};
-ghost use Rattle.net.specs.Refusals.{firstFault, badSize};
+ghost use mathlib.Core.List.{[], _∷_};
+ghost use lib.ListN.{take};
+ghost use Rattle.net.specs.Net.{numbers};
+ghost use Rattle.net.specs.Refusals.{firstFault, badSize, shortNet, anyOutside, netBeyond};
+ghost use Rattle.coarse.specs.Coarse.{coarseBeyond};
 ghost use Rattle.split.specs.Refusals.{outputsShort, oddFaults, splitFaults, splitRefusal};
 ghost use Rattle.split.specs.Answers.{SplitContract};
 
@@ -39,7 +44,32 @@ fn outputs_short(w: usize, h: usize, coarse: usize, details: usize) -> bool
     details < DETAIL_STRIDE * (w * h)
 }
 
-// The first of 2, 5, 3 and 11, or 0; `short` is whether a lent output is too short.
+// Whether a number is above 7,190,235 in size, three sevenths of the net's limit. Where none is, neither is a coarse
+// one, (5c - a - b)/3, above the limit.
+fn any_large(net: &[i32], w: usize, h: usize) -> bool
+    requires { ⌜ (badSize w h ≡ false) × (shortNet (now net) w h ≡ false) ⌝ }
+    ensures { λ r. ⌜ r ≡ anyOutside 7190235 (take (numbers w h) (now (net .entry))) ⌝ }
+{
+    first_outside(net, STRIDE * (w * h), 7190235)
+}
+
+// The first of 3 and 11, or 0.
+fn range_refusal(net: &[i32], w: usize, h: usize) -> u32
+    requires { ⌜ (badSize w h ≡ false) × (shortNet (now net) w h ≡ false) ⌝ }
+    ensures { λ r. ⌜ r
+        ≡ firstFault ((netBeyond (now (net .entry)) w h, 3) ∷ (coarseBeyond (now (net .entry)) w h, 11) ∷ []) ⌝ }
+{
+    if net_beyond(net, w, h) {
+        return 3;
+    }
+    if coarse_beyond(net, w, h) {
+        return 11;
+    }
+    0
+}
+
+// The first of 2, 5, 3 and 11, or 0; `short` is whether a lent output is too short. The test of the numbers' sizes
+// settles 3 and 11 for most nets.
 fn net_refusal(net: &[i32], w: usize, h: usize, short: bool) -> u32
     requires { ⌜ badSize w h ≡ false ⌝ }
     ensures { λ r. ⌜ r ≡ firstFault (splitFaults (now (net .entry)) w h short) ⌝ }
@@ -50,11 +80,8 @@ fn net_refusal(net: &[i32], w: usize, h: usize, short: bool) -> u32
     if short {
         return 5;
     }
-    if net_beyond(net, w, h) {
-        return 3;
-    }
-    if coarse_beyond(net, w, h) {
-        return 11;
+    if any_large(net, w, h) {
+        return range_refusal(net, w, h);
     }
     0
 }

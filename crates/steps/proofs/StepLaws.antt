@@ -13,6 +13,7 @@ use borrow.Author.Tests.{le-ltb}
 use Rattle.exact.specs.Filling.{over, UnchangedFrom}
 use Rattle.exact.proofs.FillingLaws.{length-over, drop-over}
 use Rattle.net.specs.Net.{numbers}
+use Rattle.net.specs.Refusals.{AcceptedNet}
 use Rattle.net.proofs.Faults.{cond-false}
 use Rattle.subdivision.specs.Refinement.{sideAfter}
 use Rattle.subdivision.proofs.SameSpline.{side-at-least}
@@ -48,8 +49,8 @@ pub copied : (net : List ℤ) (w h k : ℕ) → k ≡ 0 → numbers w h ≤ leng
     take (numbers w h) net ≡ refinedNet net w h k
 copied net w h k e l = sym (no-step net w h l) ∙ ap (refinedNet net w h) (sym e)
 
-pub last-ready : (net out : List ℤ) {w h k : ℕ} → Depth w h k → 1 ≤ k → numbersAfter (k - 1) w h ≤ length net →
-    numbersAfter k w h ≤ length out →
+pub last-ready : (net out : List ℤ) {w h k : ℕ} → Depth w h k → 1 ≤ k →
+    AcceptedNet net (sideAfter (k - 1) w) (sideAfter (k - 1) h) → numbersAfter k w h ≤ length out →
     StepReady net (sideAfter (k - 1) w) (sideAfter (k - 1) h) out
 last-ready net out {w} {h} {k} d a l r = (
   record {

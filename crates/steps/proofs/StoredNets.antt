@@ -10,6 +10,7 @@ use lib.ListN.{length, take, drop, length-take, length-drop, List·getD-append}
 use lib.Seq.{getD-take, getD-drop, take-all}
 use borrow.Author.Tests.{ltb-true, le-ltb}
 use Rattle.exact.specs.Rounding.{rounded}
+use Rattle.exact.specs.WeightedSum.{weightedSum}
 use Rattle.exact.specs.Filling.{over, runs}
 use Rattle.exact.proofs.FillingLaws.{array-elements}
 use Rattle.net.specs.Net.{Index, one, two, three, rank, Vertex, vertexAt, vertexOf, Field, numbers, start, vertexNumbers, number, entry, field, stride, pointStride}
@@ -18,8 +19,12 @@ use Rattle.net.proofs.Faults.{or-no}
 use Rattle.net.proofs.Grids.{grid-length, grid-number, grid-same, grid-of-parts, grid-by-number, any-grid}
 use Rattle.net.proofs.Ranges.{any-append}
 use Rattle.net.proofs.Places.{vertex-ends, field-number, within-record}
-use Rattle.subdivision.specs.Refinement.{refinedSide, sideAfter, isOdd, kindBy, along, beginBy, endBy, ruleBy, keptControl, exactRefinement, refinement, refinements}
-use Rattle.steps.specs.RefinedNet.{Fields, pointAt, triangleOf, vertexRun, stored, refinedFields, refinedNet}
+use Rattle.subdivision.specs.Refinement.{Kind, kept, along, refinedSide, sideAfter, isOdd, kindBy, beginBy, endBy, refinement, steps, refinements}
+use Rattle.subdivision.specs.WeightTable.{Table, kindNumber, weightsAt, passes, six, exactBy, refinedBy, weights, weights-pass}
+use Rattle.subdivision.proofs.Means.{kept-alone}
+use Rattle.subdivision.proofs.Tables.{our-refinement}
+use Rattle.bounds.proofs.Distance.{our-nets}
+use Rattle.steps.specs.RefinedNet.{Fields, pointAt, triangleOf, vertexRun, stored, refinedNet}
 
 -- ---- the numbers of a stored net
 
@@ -44,19 +49,6 @@ run-number F v three zero h = refl
 run-number F v three (suc zero) h = refl
 run-number F v three (suc (suc zero)) h = refl
 run-number F v l (suc (suc (suc x))) h = absurd (omega (arith, h))
-
--- a number of the control triangle of a vertex
-pub triangle-entry : (F : Fields) (v : Vertex) (l : Index) (x : ℕ) → x < 3 → entry (triangleOf F v) l x ≡ F x v l
-triangle-entry F v one zero h = refl
-triangle-entry F v one (suc zero) h = refl
-triangle-entry F v one (suc (suc zero)) h = refl
-triangle-entry F v two zero h = refl
-triangle-entry F v two (suc zero) h = refl
-triangle-entry F v two (suc (suc zero)) h = refl
-triangle-entry F v three zero h = refl
-triangle-entry F v three (suc zero) h = refl
-triangle-entry F v three (suc (suc zero)) h = refl
-triangle-entry F v l (suc (suc (suc x))) h = absurd (omega (arith, h))
 
 -- the field of a slice that begins with a stored net
 pub stored-field : (F : Fields) (w h : ℕ) (old : List ℤ) (i j : ℕ) → i < w → j < h → (l : Index) (x : ℕ) → x < 3 →
@@ -83,6 +75,10 @@ pub stored-beyond : (F : Fields) (w h : ℕ) →
 unfolding netBeyond
 stored-beyond F w h =
     ap anyBeyond (take-all (numbers w h) (stored F w h) (omega (arith, stored-length F w h)) ∙ stored-by-number F w h)
+
+pub stored-tested : (F : Fields) (w h : ℕ) → netBeyond (stored F w h) w h ≡ anyBeyond (stored F w h)
+unfolding netBeyond
+stored-tested F w h = ap anyBeyond (take-all (numbers w h) (stored F w h) (omega (arith, stored-length F w h)))
 
 -- the nine numbers of a vertex, and all numbers of a stored net, in range
 abbrev pub Fine : Fields → Vertex → Type 0
@@ -117,32 +113,54 @@ stored-same F G w h e =
     λ l t. e 0 (lit< tt) i j a b l t ∷ e 1 (lit< tt) i j a b l t ∷ e 2 (lit< tt) i j a b l t ∷ [] in
     λ t. point one t ++ point two t ++ point three t)
 
--- one refinement looks only at vertices of the net
-pub refinement-local : (F G : Field) (w h : ℕ) → Agree w h F G →
-    Agree (refinedSide w) (refinedSide h) (refinement F) (refinement G)
-unfolding refinement exactRefinement
-refinement-local F G w h e i j a b l = by (isOdd i) (isOdd j) refl refl
+-- a value that a table makes of the two ends of an edge
+abbrev valueBy : Table → Index → Kind → (Index → ℤ) → (Index → ℤ) → ℤ
+valueBy T l k u v = rounded (weightedSum (weightsAt T (kindNumber k) l) (six u v)) 12
+
+-- one refinement, by any table that passes, looks only at vertices of the net
+pub refined-by-local : (T : Table) → passes T ≡ true → (F G : Field) (w h : ℕ) → Agree w h F G →
+    Agree (refinedSide w) (refinedSide h) (refinedBy T F) (refinedBy T G)
+unfolding refinedBy exactBy
+refined-by-local T p F G w h e i j a b l = by (isOdd i) (isOdd j) refl refl
   where
     by : (p q : Bool) → isOdd i ≡ p → isOdd j ≡ q →
-        rounded (ruleBy (kindBy p q) (F (beginBy (kindBy p q) (i / 2) (j / 2)))
-        (F (endBy (kindBy p q) (i / 2) (j / 2))) l) 12
-        ≡ rounded (ruleBy (kindBy p q) (G (beginBy (kindBy p q) (i / 2) (j / 2)))
-        (G (endBy (kindBy p q) (i / 2) (j / 2))) l) 12
+        (let k = kindBy p q in
+        valueBy T l k (F (beginBy k (i / 2) (j / 2))) (F (endBy k (i / 2) (j / 2)))
+        ≡ valueBy T l k (G (beginBy k (i / 2) (j / 2))) (G (endBy k (i / 2) (j / 2))))
     by false false f g =
-        λ t. rounded (keptControl (λ c. e (i / 2) (j / 2) (omega (arith, a)) (omega (arith, b)) c t) l) 12
+        let v = vertexAt (i / 2) (j / 2) in
+        let u = vertexAt (i / 2 + 1) (j / 2) in
+        (λ t. valueBy T l kept (λ c. e (i / 2) (j / 2) (omega (arith, a)) (omega (arith, b)) c t) (F u))
+        ∙ ap (λ (z : ℤ). rounded z 12) (kept-alone T p l (G v) (F u) (G u))
     by true false f g =
         let odd = ltb-true (2 * (i / 2)) i f in
-        λ t. rounded (ruleBy (along one) (λ c. e (i / 2) (j / 2) (omega (arith, a)) (omega (arith, b)) c t)
-        (λ c. e (i / 2 + 1) (j / 2) (omega (arith, a, odd)) (omega (arith, b)) c t) l) 12
+        λ t. valueBy T l (along one) (λ c. e (i / 2) (j / 2) (omega (arith, a)) (omega (arith, b)) c t)
+        (λ c. e (i / 2 + 1) (j / 2) (omega (arith, a, odd)) (omega (arith, b)) c t)
     by true true f g =
         let odd = ltb-true (2 * (i / 2)) i f in
         let odd′ = ltb-true (2 * (j / 2)) j g in
-        λ t. rounded (ruleBy (along two) (λ c. e (i / 2 + 1) (j / 2) (omega (arith, a, odd)) (omega (arith, b)) c t)
-        (λ c. e (i / 2) (j / 2 + 1) (omega (arith, a)) (omega (arith, b, odd′)) c t) l) 12
+        λ t. valueBy T l (along two) (λ c. e (i / 2 + 1) (j / 2) (omega (arith, a, odd)) (omega (arith, b)) c t)
+        (λ c. e (i / 2) (j / 2 + 1) (omega (arith, a)) (omega (arith, b, odd′)) c t)
     by false true f g =
         let odd = ltb-true (2 * (j / 2)) j g in
-        λ t. rounded (ruleBy (along three) (λ c. e (i / 2) (j / 2 + 1) (omega (arith, a)) (omega (arith, b, odd)) c t)
-        (λ c. e (i / 2) (j / 2) (omega (arith, a)) (omega (arith, b)) c t) l) 12
+        λ t. valueBy T l (along three) (λ c. e (i / 2) (j / 2 + 1) (omega (arith, a)) (omega (arith, b, odd)) c t)
+        (λ c. e (i / 2) (j / 2) (omega (arith, a)) (omega (arith, b)) c t)
+
+-- and so do k of them
+pub steps-local : (T : Table) → passes T ≡ true → (k w h : ℕ) (F G : Field) → Agree w h F G →
+    Agree (sideAfter k w) (sideAfter k h) (steps (refinedBy T) k F) (steps (refinedBy T) k G)
+steps-local T p zero w h F G e = e
+steps-local T p (suc k) w h F G e =
+    refined-by-local T p (steps (refinedBy T) k F) (steps (refinedBy T) k G) (sideAfter k w) (sideAfter k h)
+    (steps-local T p k w h F G e)
+
+-- document 01's refinement is the one by our table
+pub refinement-local : (F G : Field) (w h : ℕ) → Agree w h F G →
+    Agree (refinedSide w) (refinedSide h) (refinement F) (refinement G)
+refinement-local F G w h e i j a b l =
+    (λ t. sym (our-refinement F) t (vertexAt i j) l)
+    ∙ refined-by-local weights weights-pass F G w h e i j a b l
+    ∙ (λ t. our-refinement G t (vertexAt i j) l)
 
 -- ---- the refined net as it is stored
 
@@ -175,14 +193,31 @@ no-step net w h l =
     (λ i j a b. vertex-part net w (vertexAt i j) (omega (arith, vertex-ends {w = w} {h = h} {i = i} {j = j} a b, l)))
     ∙ grid-of-parts stride w h net
 
+-- the net that k steps by a table make of a net, and ours
+unfoldable pub netBy : Table → List ℤ → ℕ → ℕ → ℕ → List ℤ
+netBy T net w h k = stored (λ x. steps (refinedBy T) k (field net w x)) (sideAfter k w) (sideAfter k h)
+
+pub our-net : (net : List ℤ) (w h k : ℕ) → netBy weights net w h k ≡ refinedNet net w h k
+unfolding netBy refinedNet
+our-net net w h k = λ t. stored (λ x. our-nets k (field net w x) t) (sideAfter k w) (sideAfter k h)
+
 -- one step more, of the net that the steps before it left in a slice
-pub step-more : (net : List ℤ) (w h k : ℕ) (old : List ℤ) →
-    refinedNet (over (refinedNet net w h k) old) (sideAfter k w) (sideAfter k h) 1 ≡ refinedNet net w h (suc k)
-unfolding refinedNet
-step-more net w h k old =
+pub step-more-by : (T : Table) → passes T ≡ true → (net : List ℤ) (w h k : ℕ) (old : List ℤ) →
+    netBy T (over (netBy T net w h k) old) (sideAfter k w) (sideAfter k h) 1 ≡ netBy T net w h (suc k)
+unfolding netBy
+step-more-by T p net w h k old =
     let m = sideAfter k w in
     let n = sideAfter k h in
-    let F : Fields = λ x. refinements k (field net w x) in
-    stored-same (refinedFields (over (stored F m n) old) m) (λ x. refinement (F x)) (refinedSide m) (refinedSide n)
-    (λ x c. refinement-local (field (over (stored F m n) old) m x) (F x) m n
+    let F : Fields = λ x. steps (refinedBy T) k (field net w x) in
+    stored-same (λ x. refinedBy T (field (over (stored F m n) old) m x)) (λ x. refinedBy T (F x)) (refinedSide m)
+    (refinedSide n)
+    (λ x c. refined-by-local T p (field (over (stored F m n) old) m x) (F x) m n
     (λ i j a b l. stored-field F m n old i j a b l x c))
+
+pub step-more : (net : List ℤ) (w h k : ℕ) (old : List ℤ) →
+    refinedNet (over (refinedNet net w h k) old) (sideAfter k w) (sideAfter k h) 1 ≡ refinedNet net w h (suc k)
+step-more net w h k old =
+    sym (our-net (over (refinedNet net w h k) old) (sideAfter k w) (sideAfter k h) 1)
+    ∙ (λ t. netBy weights (over (sym (our-net net w h k) t) old) (sideAfter k w) (sideAfter k h) 1)
+    ∙ step-more-by weights weights-pass net w h k old
+    ∙ our-net net w h (suc k)

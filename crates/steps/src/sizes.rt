@@ -1,7 +1,11 @@
-// Sides after k steps.
+// Sides after k steps, and the longest row.
+use net::STRIDE;
 ghost use mathlib.Core.Path.{_≡_};
 ghost use Prim.Native.Nat.{_≤_};
 ghost use Rattle.subdivision.specs.Refinement.{sideAfter};
+
+// The numbers of the longest row of a net, for a row by itself.
+pub const ROW_SIZE: usize = 1025 * STRIDE;
 
 // A side of n vertices after k steps. For the steps and for `refine`, which have refused every other side
 // and k.

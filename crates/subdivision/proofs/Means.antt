@@ -30,7 +30,7 @@ module _ (T : Table) (e : passes T ≡ true) where
       zeros (suc (suc zero)) = refl
       zeros (suc (suc (suc j))) = refl
 
-  kept-alone : (l : Index) (a b b′ : Index → ℤ) →
+  pub kept-alone : (l : Index) (a b b′ : Index → ℤ) →
       weightedSum (weightsAt T 0 l) (six a b) ≡ weightedSum (weightsAt T 0 l) (six a b′)
   kept-alone l a b b′ = sum-same (weightsAt T 0 l) (six a b) (six a b′) refl at
     where

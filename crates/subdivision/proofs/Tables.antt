@@ -23,7 +23,7 @@ use Rattle.subdivision.specs.Promises.{Quotients, StepNearest, OurTable,
 
 -- ---- from the test of a table to its rows
 
-both : (a b : Bool) → (a && b) ≡ true → (a ≡ true) × (b ≡ true)
+pub both : (a b : Bool) → (a && b) ≡ true → (a ≡ true) × (b ≡ true)
 both true b e = (refl, e)
 both false b e = (e, absurd (subst T (sym e) tt))
 

@@ -5,7 +5,7 @@ use crate::answers::ViewAnswer;
 use crate::answers::ViewPoint;
 use de_casteljau::Corner;
 use de_casteljau::last_average;
-use exact::round_quotient;
+use exact::round_even;
 use places::locate;
 use places::place_refusal;
 use places::put_in_order;
@@ -35,7 +35,7 @@ fn round_point(last: i64) -> i32
     requires { ⌜ natAbs last ≤ 37748736 * 16777216 ⌝ }
     ensures { λ r. ⌜ r ≡ rounded last 37748736 ⌝ }
 {
-    round_quotient(last, 37748736) as i32
+    round_even(last, 18874368, 16777216) as i32
 }
 
 // The point in one coordinate, of the control triangles of P, Q and T, each in the order ck, cn, cm.

@@ -64,6 +64,30 @@ fn random_details() {
     assert!(seen[0] >= 200 && seen[11] >= 200, "{seen:?}");
 }
 
+/// Coarse numbers and details of half of the limit in size, and a little more or less: there the
+/// greatest sum leaves the range.
+#[test]
+fn around_half_of_the_limit() {
+    let mut random = Random::new(226);
+    let mut seen = [0; 12];
+    for round in 0..600 {
+        let size = (2 + random.below(2), 2 + random.below(2));
+        let half = LIMIT / 2;
+        let coarse = vec![half + random.pick(&[-1, 0, 1]); record::numbers(size)];
+        let mut details: Vec<i32> = (0..detail_count(size))
+            .map(|_| (half - random.below(3) as i32) * random.pick(&[-1, 1]))
+            .collect();
+        // The first, the last or another detail a little further out.
+        let last = details.len() - 1;
+        let within = random.below(last);
+        let at = random.pick(&[0, last, within]);
+        details[at] = half + random.pick(&[-1, 0, 1]);
+        let merged = check(&coarse, &details, size, round % 2);
+        seen[merged.err().unwrap_or(0) as usize] += 1;
+    }
+    assert!(seen[0] >= 100 && seen[11] >= 50, "{seen:?}");
+}
+
 #[test]
 fn no_details_are_one_refinement() {
     let mut random = Random::new(223);

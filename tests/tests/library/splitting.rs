@@ -110,6 +110,29 @@ fn one_number_at_a_time() {
     }
 }
 
+/// Numbers of three sevenths of the limit in size, and a little more or less: there the greatest
+/// coarse number, 7/3 of them, leaves the range.
+#[test]
+fn around_three_sevenths_of_the_limit() {
+    let mut random = Random::new(217);
+    let mut seen = [0; 12];
+    for round in 0..600 {
+        let size = (3 + 2 * random.below(2), 3 + 2 * random.below(2));
+        let around = LIMIT / 7 * 3 + random.pick(&[-1, 0, 1, 2, 3, 4]);
+        let mut net: Vec<i32> = (0..record::numbers(size))
+            .map(|_| around * random.pick(&[-1, 1]))
+            .collect();
+        // One number that is further in, or the first or last one further out.
+        let last = net.len() - 1;
+        let within = random.below(last);
+        let at = random.pick(&[0, last, within]);
+        net[at] += random.pick(&[-2, 0, 2]) * net[at].signum();
+        let split = check(&net, size, round % 2);
+        seen[split.err().unwrap_or(0) as usize] += 1;
+    }
+    assert!(seen[0] >= 100 && seen[11] >= 100, "{seen:?}");
+}
+
 /// A third beyond the range is rounded into it, two thirds are not.
 #[test]
 fn the_ends_of_the_coarse_range() {

@@ -3,7 +3,6 @@ use mathlib.Core.List.{List}
 use mathlib.Core.Bool.{Bool}
 use mathlib.Core.Path.{_≡_, sym, ap, _∙_, subst}
 use Prim.Native.Nat.{ℕ, _<_}
-use lib.Dec.{lit<}
 use lib.ListN.{length}
 use lib.IntN.{ℤ}
 use borrow.Author.Needs.{needs}
@@ -11,9 +10,9 @@ use Rattle.exact.specs.WeightedSum.{Within}
 use Rattle.exact.specs.Filling.{over, runs}
 use Rattle.net.specs.Net.{Triangle, triangleAt}
 use Rattle.triangles.specs.Corners.{valuesIn}
-use Rattle.bezier.specs.Weights.{threeAt}
+use Rattle.bezier.specs.Weights.{pointsOf, threeAt}
 use Rattle.bezier.specs.Refusals.{bezierRefusal}
-use Rattle.bezier.proofs.BezierNets.{GoodTriangle, good-triangle, formed, formed-within, reordered-values, pointsOf, points-of-net, accepted-bezier, refused-bezier}
+use Rattle.bezier.proofs.BezierNets.{GoodTriangle, good-triangle, formed, formed-within, reordered-values, points-of-net, accepted-bezier, refused-bezier}
 use Rattle.bezier.proofs.bezier.bezier_net.Statement.{statement}
 use Rattle.bezier.proofs.bezier.bezier_net.Tie as tie
 
@@ -52,24 +51,20 @@ module _ (c : tie.Else1) where
   within : (x : ℕ) → x < 3 → Within 16777216 (formed net w triangle x)
   within = formed-within net w i j down (good .lies) (good .range)
 
--- what each call of `coordinate_values` and of `ordinates` gave
+-- what the reordered control triangles hold
 module _ (c : tie.After-reorder-controls) where
   abbrev at : tie.Else1
   at = c .before .before
 
-  value : (x : ℕ) {values : List ℤ} → values ≡ valuesIn (c .reorder-controls .result) x →
-      values ≡ formed (net at) (w at) (triangle at) x
+  value : (x : ℕ) → valuesIn (c .reorder-controls .result) x ≡ formed (net at) (w at) (triangle at) x
   value =
       reordered-values (net at) (w at) (triangle at) (c .before .load-triangle .ensures) (c .reorder-controls .ensures)
 
-  small : (x : ℕ) → x < 3 → {values : List ℤ} → values ≡ valuesIn (c .reorder-controls .result) x →
-      Within 16777216 values
-  small x k e = subst (Within 16777216) (sym (value x e)) (within at x k)
+  small : (x : ℕ) → x < 3 → Within 16777216 (valuesIn (c .reorder-controls .result) x)
+  small x k = subst (Within 16777216) (sym (value x)) (within at x k)
 
-  points : (x : ℕ) {values numbers : List ℤ} → values ≡ valuesIn (c .reorder-controls .result) x →
-      numbers ≡ pointsOf values →
-      numbers ≡ pointsOf (formed (net at) (w at) (triangle at) x)
-  points x e f = f ∙ ap pointsOf (value x e)
+  points : (x : ℕ) → pointsOf (valuesIn (c .reorder-controls .result) x) ≡ pointsOf (formed (net at) (w at) (triangle at) x)
+  points x = ap pointsOf (value x)
 
 bezier-refusal-requires : tie.Need-bezier-refusal-requires
 bezier-refusal-requires c κs = search needs
@@ -83,42 +78,19 @@ load-triangle-requires c κs = good c .lies
 reorder-controls-requires : tie.Need-reorder-controls-requires
 reorder-controls-requires c κs = search needs
 
-coordinate-values-requires : tie.Need-coordinate-values-requires
-coordinate-values-requires c κs = search needs
-
-ordinates-requires : tie.Need-ordinates-requires
-ordinates-requires c κs = small (c .before) 0 (lit< tt) (c .coordinate-values .ensures)
-
-coordinate-values-requires-2 : tie.Need-coordinate-values-requires-2
-coordinate-values-requires-2 c κs = search needs
-
-ordinates-requires-2 : tie.Need-ordinates-requires-2
-ordinates-requires-2 c κs = small (c .before .before .before) 1 (lit< tt) (c .coordinate-values2 .ensures)
-
-coordinate-values-requires-3 : tie.Need-coordinate-values-requires-3
-coordinate-values-requires-3 c κs = search needs
-
-ordinates-requires-3 : tie.Need-ordinates-requires-3
-ordinates-requires-3 c κs =
-    small (c .before .before .before .before .before) 2 (lit< tt) (c .coordinate-values3 .ensures)
-
 write-points-requires : tie.Need-write-points-requires
-write-points-requires c κs = good (at (c .before .before .before .before .before .before .before)) .room-enough
+write-points-requires c κs = (small (c .before), good (at (c .before)) .room-enough)
 
 same-length : tie.Need-same-length
 same-length c = search needs
 
 returns-2 : tie.Need-returns-2
 returns-2 c =
-    let o = c .before .before .before in
-    let t = o .before .before .before .before .before .before in
+    let t = c .before .before .before in
     let e = at t in
-    let x =
-    points t 0 (o .before .before .before .before .before .coordinate-values .ensures)
-    (o .before .before .before .before .ordinates .ensures) in
-    let y =
-    points t 1 (o .before .before .before .coordinate-values2 .ensures) (o .before .before .ordinates2 .ensures) in
-    let z = points t 2 (o .before .coordinate-values3 .ensures) (o .ordinates3 .ensures) in
+    let x = points t 0 in
+    let y = points t 1 in
+    let z = points t 2 in
     accepted-bezier (net e) (w e) (h e) (i e) (j e) (down e) (out e) (none e)
     (c .before .write-points .ensures
     ∙ (λ k. over (runs 19 (threeAt (x k) (y k) (z k))) (out e))
@@ -132,12 +104,6 @@ bezier-net-spec =
     returns
     load-triangle-requires
     reorder-controls-requires
-    coordinate-values-requires
-    ordinates-requires
-    coordinate-values-requires-2
-    ordinates-requires-2
-    coordinate-values-requires-3
-    ordinates-requires-3
     write-points-requires
     same-length
     returns-2)

@@ -1,88 +1,52 @@
--- `bezier::bezier::write_points` meets its contract: each iteration stores one run of three numbers more.
-use mathlib.Core.List.{List, [], _∷_}
+-- `bezier::bezier::write_points` meets its contract: each iteration stores one coordinate more.
 use mathlib.Core.Path.{_≡_, refl, ap, _∙_}
-use Prim.Native.Nat.{ℕ, _-_, _*_, _≤_}
+use mathlib.Core.List.{List}
+use Prim.Native.Nat.{ℕ, _-_, _≤_, _<_}
 use native.Mathlib.Omega.{arith}
-use native.Mathlib.Nat.{mul-comm}
-use lib.Seq.{sets, length-sets}
-use lib.ListN.{length, getD}
-use lib.IntN.{ℤ, pos}
-use mir.Syntax.{w32}
-use mir.Val.{toZ, ofZ}
+use lib.IntN.{ℤ}
+use lib.ListN.{length}
 use borrow.Author.Needs.{needs}
-use Rattle.exact.specs.Filling.{over, runs}
-use Rattle.exact.proofs.SignedCode.{reads-back}
-use Rattle.exact.proofs.FillingLaws.{over-none, over-more}
-use Rattle.bezier.specs.Weights.{threeAt}
+use Rattle.triangles.specs.Corners.{valuesIn}
+use Rattle.bezier.specs.Weights.{pointsOf, placed}
+use Rattle.bezier.proofs.Placing.{length-placed, passes, passes-none, passes-more, passes-points}
 use Rattle.bezier.proofs.bezier.write_points.Statement.{statement}
 use Rattle.bezier.proofs.bezier.write_points.Tie as tie
 
+-- the 19 points in coordinate x
+abbrev points : List (List (List ℤ)) → ℕ → List ℤ
+points controls x = pointsOf (valuesIn controls x)
+
 abbrev Inv-loop : tie.InvT-loop
-Inv-loop out₀ xs ys zs n₀ out n =
-    (n ≤ 19) × (length out ≡ length out₀) × (out ≡ over (runs n (threeAt xs ys zs)) out₀)
+Inv-loop controls out₀ x₀ out x = (x ≤ 3) × (length out ≡ length out₀) × (out ≡ passes x (points controls) out₀)
 
 abbrev μ-loop : tie.MeasureT-loop
-μ-loop out₀ xs ys zs n₀ out n = 19 - n
+μ-loop controls out₀ x₀ out x = 3 - x
 
 loop-holds : tie.Need-loop-holds Inv-loop μ-loop
-loop-holds c = (omega arith, refl, over-none _ _)
+loop-holds c = (omega arith, refl, passes-none _ _)
 
-mul-x : tie.Need-mul-x Inv-loop μ-loop
-mul-x c = search needs
+write-coordinate-requires : tie.Need-write-coordinate-requires Inv-loop μ-loop
+write-coordinate-requires c κs =
+    let at = c .before .before in
+    let test : at .loop .x < 3 = omega arith in
+    (test, at .before .pre .0 (at .loop .x) test, omega arith)
 
-array-copy-out-x : tie.Need-array-copy-out-x Inv-loop μ-loop
-array-copy-out-x c = search needs
-
-mul-y : tie.Need-mul-y Inv-loop μ-loop
-mul-y c = search needs
-
-array-copy-out-y : tie.Need-array-copy-out-y Inv-loop μ-loop
-array-copy-out-y c = search needs
-
-mul-z : tie.Need-mul-z Inv-loop μ-loop
-mul-z c = search needs
-
-array-copy-out-z : tie.Need-array-copy-out-z Inv-loop μ-loop
-array-copy-out-z c = search needs
-
-mul-store-point : tie.Need-mul-store-point Inv-loop μ-loop
-mul-store-point c = omega arith
-
-store-point-requires : tie.Need-store-point-requires Inv-loop μ-loop
-store-point-requires c κs = omega arith
-
-add-n : tie.Need-add-n Inv-loop μ-loop
-add-n c = search needs
+add-x : tie.Need-add-x Inv-loop μ-loop
+add-x c = search needs
 
 loop-less : tie.Need-loop-less Inv-loop μ-loop
 loop-less c = search needs
 
 loop-again : tie.Need-loop-again Inv-loop μ-loop
 loop-again c =
-    let z = c .before .before .before in
-    let at = z .before .before .before .before in
+    let at = c .before .before .before .before in
     let a = at .before .args in
-    let f = threeAt (a .t1) (a .t2) (a .t3) in
-    let old = a .out .now in
-    let n = at .loop .n in
-    let stored =
-    _∙_ {b =
-    sets (at .loop .out) (3 * n)
-    (toZ w32 (ofZ w32 (getD (a .t1) n (pos 0))) ∷ toZ w32 (ofZ w32 (getD (a .t2) n (pos 0)))
-    ∷ toZ w32 (ofZ w32 (getD (a .t3) n (pos 0))) ∷ [])}
-    (c .before .store-point .ensures)
-    (λ t.
-    sets (at .loop .out) (3 * n)
-    (reads-back w32 (getD (a .t1) n (pos 0)) (z .before .before .x .given) t
-    ∷ reads-back w32 (getD (a .t2) n (pos 0)) (z .before .y .given) t
-    ∷ reads-back w32 (getD (a .t3) n (pos 0)) (z .z .given) t
-    ∷ [])) in (
+    let x = at .loop .x in
+    let f = points (a .controls) in
+    let stored = c .before .write-coordinate .ensures in (
       search needs,
-      ap length stored ∙ length-sets (at .loop .out) (3 * n) (f n) ∙ at .loop .inv .1,
-      stored
-          ∙ ap (λ (l : List ℤ). sets l (3 * n) (f n)) (at .loop .inv .2)
-          ∙ ap (λ (k : ℕ). sets (over (runs n f) old) k (f n)) (mul-comm 3 n)
-          ∙ over-more old n 3 f (λ k h. refl) (omega arith),
+      ap length stored ∙ length-placed 19 x (f x) (at .loop .out) ∙ at .loop .inv .1,
+      stored ∙ ap (λ (l : List ℤ). placed 19 x (f x) l) (at .loop .inv .2) ∙ passes-more x f (a .out .now),
     )
 
 same-length : tie.Need-same-length Inv-loop μ-loop
@@ -90,9 +54,12 @@ same-length c = search needs
 
 returns : tie.Need-returns Inv-loop μ-loop
 returns c =
-    let a = c .before .before .args in
-    let all : c .before .loop .n ≡ 19 = omega arith in
-    c .before .loop .inv .2 ∙ ap (λ (n : ℕ). over (runs n (threeAt (a .t1) (a .t2) (a .t3))) (a .out .now)) all
+    let start = c .before .before in
+    let f = points (start .args .controls) in
+    let all : c .before .loop .x ≡ 3 = omega arith in
+    c .before .loop .inv .2
+    ∙ ap (λ (x : ℕ). passes x f (start .args .out .now)) all
+    ∙ passes-points f (start .args .out .now) (start .pre .1)
 
 pub write-points-spec : {M : Type 1} → statement M
 write-points-spec =
@@ -101,15 +68,8 @@ write-points-spec =
     Inv-loop
     μ-loop
     loop-holds
-    mul-x
-    array-copy-out-x
-    mul-y
-    array-copy-out-y
-    mul-z
-    array-copy-out-z
-    mul-store-point
-    store-point-requires
-    add-n
+    write-coordinate-requires
+    add-x
     loop-less
     loop-again
     same-length

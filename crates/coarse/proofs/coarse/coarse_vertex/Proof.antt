@@ -4,9 +4,8 @@ use Prim.Native.Nat.{_*_, _≤_}
 use native.Mathlib.Nat.{mul-le-mul, le-refl}
 use borrow.Author.Needs.{needs}
 use Rattle.net.specs.Net.{vertexAt}
-use Rattle.net.specs.Refusals.{netLimit}
+use Rattle.net.specs.Refusals.{netLimit, ControlsWithin}
 use Rattle.net.proofs.Places.{field-size}
-use Rattle.details.specs.Details.{ControlsWithin}
 use Rattle.coarse.specs.Coarse.{coarsened, coarseControls, coarseTriangle}
 use Rattle.coarse.proofs.coarse.coarse_vertex.Statement.{statement}
 use Rattle.coarse.proofs.coarse.coarse_vertex.Tie as tie

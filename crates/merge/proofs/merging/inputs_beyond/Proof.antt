@@ -6,7 +6,7 @@ use borrow.Author.Needs.{needs}
 use Rattle.net.specs.Net.{numbers}
 use Rattle.net.proofs.Faults.{or-yes, or-no}
 use Rattle.subdivision.specs.Refinement.{refinedSide}
-use Rattle.refine.proofs.RefinedNets.{good-after}
+use Rattle.steps.proofs.RefinedNets.{good-after}
 use Rattle.details.specs.Details.{detailNumbers}
 use Rattle.merge.proofs.MergeLaws.{coarse-size, long-inputs}
 use Rattle.merge.proofs.merging.inputs_beyond.Statement.{statement}

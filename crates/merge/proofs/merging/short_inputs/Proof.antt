@@ -2,7 +2,7 @@
 use mathlib.Core.Path.{sym, _∙_}
 use borrow.Author.Needs.{needs}
 use Rattle.net.proofs.Faults.{or-yes, or-no}
-use Rattle.refine.proofs.RefinedNets.{good-after}
+use Rattle.steps.proofs.RefinedNets.{good-after}
 use Rattle.merge.proofs.MergeLaws.{coarse-size}
 use Rattle.merge.proofs.merging.short_inputs.Statement.{statement}
 use Rattle.merge.proofs.merging.short_inputs.Tie as tie

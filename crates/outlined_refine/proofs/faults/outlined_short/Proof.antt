@@ -13,7 +13,7 @@ use Rattle.subdivision.specs.Refinement.{sideAfter}
 use Rattle.steps.specs.Steps.{Depth}
 use Rattle.refine.specs.Refusals.{tooShort}
 use Rattle.refine.proofs.Depths.{good-depth}
-use Rattle.refine.proofs.RefinedNets.{good-after}
+use Rattle.steps.proofs.RefinedNets.{good-after}
 use Rattle.steps.proofs.Sides.{wide-ready, high-ready}
 use Rattle.outlined_refine.proofs.faults.outlined_short.Statement.{statement}
 use Rattle.outlined_refine.proofs.faults.outlined_short.Tie as tie

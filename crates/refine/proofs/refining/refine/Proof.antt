@@ -5,7 +5,6 @@ use Prim.Native.Nat.{ℕ}
 use lib.IntN.{ℤ}
 use lib.ListN.{length}
 use borrow.Author.Needs.{needs}
-use borrow.Author.Tests.{ltb-false}
 use Rattle.net.proofs.Faults.{carried-out, not-carried-out}
 use Rattle.steps.specs.RefinedNet.{refinedNet}
 use Rattle.refine.specs.Answers.{refusalOf}
@@ -38,7 +37,7 @@ refusal-of-requires c κs = search needs
 refine-steps-requires : tie.Need-refine-steps-requires
 refine-steps-requires c κs =
     let t = taken (c .before .before) in
-    (t .depth, ltb-false _ _ (t .given .long), t .roomy, t .enough)
+    (t .depth, t .given, t .roomy, t .enough)
 
 same-length : tie.Need-same-length
 same-length c = search needs

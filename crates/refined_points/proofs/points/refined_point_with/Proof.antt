@@ -6,7 +6,6 @@ use Prim.Native.Nat.{ℕ}
 use lib.IntN.{ℤ}
 use lib.ListN.{length}
 use borrow.Author.Needs.{needs}
-use borrow.Author.Tests.{ltb-false}
 use Rattle.net.proofs.Faults.{accepted-answer, refused-answer}
 use Rattle.places.specs.Places.{OnGrid}
 use Rattle.surface.specs.Answers.{pointAnswer}
@@ -68,7 +67,7 @@ returns c =
 refine-steps-requires : tie.Need-refine-steps-requires
 refine-steps-requires c κs =
     let t = taken (c .before .before) .0 in
-    (t .depth, ltb-false _ _ (t .given .long), t .roomy, t .enough)
+    (t .depth, t .given, t .roomy, t .enough)
 
 side-after-requires : tie.Need-side-after-requires
 side-after-requires c κs = wide-ready (taken (c .before .before .before .before .before) .0 .depth)

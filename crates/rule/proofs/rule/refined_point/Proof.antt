@@ -1,23 +1,9 @@
 -- `rule::rule::refined_point` meets its contract.
-use mathlib.Core.List.{List, [], _∷_, map}
-use mathlib.Core.Path.{_≡_, ap, _∙_}
-use Prim.Native.Nat.{ℕ, _<_, _^_}
-use lib.IntN.{ℤ, pos}
-use lib.Signed.{mag}
-use mir.Syntax.{w32}
-use mir.Val.{toZ, ofZ}
+use mathlib.Core.List.{[], _∷_}
 use borrow.Author.Needs.{needs}
-use Rattle.exact.specs.Rounding.{rounded}
-use Rattle.exact.specs.WeightedSum.{weightedSum}
-use Rattle.exact.proofs.SignedCode.{reads-as}
+use Rattle.rule.proofs.Values.{number}
 use Rattle.rule.proofs.rule.refined_point.Statement.{statement}
 use Rattle.rule.proofs.rule.refined_point.Tie as tie
-
--- what a call of `refined_number` gave, read back, of the values that a call of `values_at` gave
-number : (r : ℤ) (row : List ℕ) {vs us : List ℤ} → mag r < 2 ^ 31 → r ≡ rounded (weightedSum (map pos row) vs) 12 →
-    vs ≡ us →
-    toZ w32 (ofZ w32 r) ≡ rounded (weightedSum (map pos row) us) 12
-number r row g e f = reads-as w32 r g (e ∙ ap (λ (ws : List ℤ). rounded (weightedSum (map pos row) ws) 12) f)
 
 values-at-requires : tie.Need-values-at-requires
 values-at-requires c κs = search needs

@@ -1,13 +1,10 @@
 -- `split::splitting::net_refusal` meets its contract.
 use mathlib.Core.Path.{_≡_, refl, sym, _∙_}
-use mathlib.Core.Bool.{false, cond}
-use Prim.Native.Nat.{ℕ}
+use mathlib.Core.Bool.{false}
 use borrow.Author.Needs.{needs}
-use borrow.Author.Tests.{ltb-false}
-use Rattle.net.specs.Refusals.{firstFault, shortNet, netBeyond}
+use Rattle.net.specs.Refusals.{shortNet}
 use Rattle.net.proofs.Faults.{cond-true, cond-false}
-use Rattle.coarse.specs.Coarse.{coarseBeyond}
-use Rattle.split.specs.Refusals.{splitFaults}
+use Rattle.split.proofs.SplitLaws.{small-net}
 use Rattle.split.proofs.splitting.net_refusal.Statement.{statement}
 use Rattle.split.proofs.splitting.net_refusal.Tie as tie
 
@@ -18,19 +15,6 @@ module _ (c : tie.Else1) where
   long : shortNet (start .args .net .now) (start .args .w) (start .args .h) ≡ false
   long = sym (c .before .short-net .ensures) ∙ c .if1 .left
 
--- 3 does not refuse
-fine : (c : tie.Else3) →
-    (let s = start (c .before .before .before) in netBeyond (s .args .net .now) (s .args .w) (s .args .h) ≡ false)
-fine c = sym (c .before .net-beyond .ensures) ∙ c .if3 .left
-
--- past 2, 5 and 3
-past : (c : tie.Else3) → (let s = start (c .before .before .before) in (n : ℕ) →
-    n ≡ cond (coarseBeyond (s .args .net .now) (s .args .w) (s .args .h)) 11 0 →
-    n ≡ firstFault (splitFaults (s .args .net .now) (s .args .w) (s .args .h) (s .args .short)))
-past c n e =
-    cond-false _ 2 _ (long (c .before .before .before))
-    (cond-false _ 5 _ (c .before .before .if2 .left) (cond-false _ 3 _ (fine c) e))
-
 short-net-requires : tie.Need-short-net-requires
 short-net-requires c κs = search needs
 
@@ -40,23 +24,27 @@ returns c = cond-true _ 2 _ (sym (c .before .short-net .ensures) ∙ c .if1 .tak
 returns-2 : tie.Need-returns-2
 returns-2 c = cond-false _ 2 _ (long (c .before)) (cond-true _ 5 _ (c .if2 .taken))
 
-net-beyond-requires : tie.Need-net-beyond-requires
-net-beyond-requires c κs = (start (c .before) .pre, ltb-false _ _ (long (c .before)))
+any-large-requires : tie.Need-any-large-requires
+any-large-requires c κs = (start (c .before) .pre, long (c .before))
+
+range-refusal-requires : tie.Need-range-refusal-requires
+range-refusal-requires c κs =
+    let e = c .before .before .before in
+    (start e .pre, long e)
 
 returns-3 : tie.Need-returns-3
 returns-3 c =
-    cond-false _ 2 _ (long (c .before .before .before))
-    (cond-false _ 5 _ (c .before .before .if2 .left) (cond-true _ 3 _ (sym (c .before .net-beyond .ensures) ∙ c .if3 .taken)))
-
-coarse-beyond-requires : tie.Need-coarse-beyond-requires
-coarse-beyond-requires c κs =
-    record { size = start (c .before .before .before) .pre; long = long (c .before .before .before); inRange = fine c }
+    let e = c .before .before .before .before in
+    cond-false _ 2 _ (long e) (cond-false _ 5 _ (c .before .before .before .if2 .left) (c .range-refusal .ensures))
 
 returns-4 : tie.Need-returns-4
-returns-4 c = past (c .before .before) 11 (cond-true _ 11 0 (sym (c .before .coarse-beyond .ensures) ∙ c .if4 .taken))
-
-returns-5 : tie.Need-returns-5
-returns-5 c = past (c .before .before) 0 (cond-false _ 11 0 (sym (c .before .coarse-beyond .ensures) ∙ c .if4 .left) refl)
+returns-4 c =
+    let e = c .before .before .before in
+    let a = start e .args in
+    let none =
+    small-net (a .net .now) (a .w) (a .h) (start e .pre) (long e) (sym (c .before .any-large .ensures) ∙ c .if3 .left) in
+    cond-false _ 2 _ (long e)
+    (cond-false _ 5 _ (c .before .before .if2 .left) (cond-false _ 3 _ (none .0) (cond-false _ 11 0 (none .1) refl)))
 
 pub net-refusal-spec : {M : Type 1} → statement M
 net-refusal-spec =
@@ -65,8 +53,7 @@ net-refusal-spec =
     short-net-requires
     returns
     returns-2
-    net-beyond-requires
+    any-large-requires
+    range-refusal-requires
     returns-3
-    coarse-beyond-requires
-    returns-4
-    returns-5)
+    returns-4)

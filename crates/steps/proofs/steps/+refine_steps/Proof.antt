@@ -1,14 +1,18 @@
 -- `steps::steps::refine_steps`, which calls itself with one step less, meets its contract.
-use mathlib.Core.Path.{refl, _∙_}
+use mathlib.Core.List.{List}
+use mathlib.Core.Path.{refl, sym, subst, _∙_}
 use Prim.Native.Nat.{ℕ, _<_, _-_, _≤_}
 use native.Mathlib.Omega.{arith}
+use lib.IntN.{ℤ}
 use borrow.Fn.Kinds.{In}
 use borrow.Fn.PlainCycle.{Measures, is, falls, and}
 use borrow.Author.Needs.{needs}
 use Rattle.exact.specs.Filling.{over}
+use Rattle.net.specs.Refusals.{AcceptedNet}
 use Rattle.subdivision.specs.Refinement.{sideAfter}
 use Rattle.steps.specs.RefinedNet.{refinedNet}
 use Rattle.steps.proofs.Sides.{shallower}
+use Rattle.steps.proofs.RefinedNets.{refined-accepted}
 use Rattle.steps.proofs.StepLaws.{scratch-needed, scratch-before, output-after, scratch-after}
 use Rattle.steps.proofs.steps.+refine_steps.{statement}
 use Rattle.steps.proofs.steps.+refine_steps.Tie.{close}
@@ -85,8 +89,13 @@ refine-steps-last-step-requires t c κs =
     let two : 2 ≤ a .k = c .before .before .before .before .before .before .before .if1 .left in
     let needed = scratch-needed (a .k) (a .w) (a .h) two in
     let before = c .before .before .before .before .refine-steps .ensures in
-    let size = scratch-after (a .net .now) (a .scratch .now) (a .w) (a .h) (a .k) two (s .pre .1 .3) (before .0) in
-    (omega arith, s .pre .1 .0, omega (arith, needed, s .pre .1 .3, size .0), omega (arith, s .pre .1 .2, before .1 .0))
+    let given = refined-accepted (a .net .now) (a .scratch .now) (shallower (s .pre .1 .0)) (s .pre .1 .1) (omega (arith, needed, s .pre .1 .3)) in (
+      omega arith,
+      s .pre .1 .0,
+      subst (λ (l : List ℤ). AcceptedNet l (sideAfter (a .k - 1) (a .w)) (sideAfter (a .k - 1) (a .h)))
+          (sym (before .0)) given,
+      omega (arith, s .pre .1 .2, before .1 .0),
+    )
 
 refine-steps-same-length : (t : ℕ) → refine-steps-lts.Need-same-length (
   few-steps-reads.Asked,

@@ -1,24 +1,32 @@
 -- `steps::steps::few_steps` meets its contract.
 use mathlib.Core.Path.{_≡_, ap, subst, _∙_}
 use mathlib.Core.List.{List}
-use Prim.Native.Nat.{ℕ, _≤_, _-_}
+use Prim.Native.Nat.{ℕ, _*_, _≤_, _-_}
 use native.Mathlib.Omega.{arith}
 use lib.IntN.{ℤ}
 use lib.ListN.{length, length-take, take}
 use borrow.Author.Needs.{needs}
+use borrow.Author.Tests.{ltb-false}
 use Rattle.exact.specs.Filling.{over}
 use Rattle.net.specs.Net.{numbers}
+use Rattle.net.proofs.Places.{good-size, few-vertices}
 use Rattle.steps.specs.RefinedNet.{refinedNet, numbersAfter}
 use Rattle.steps.specs.Steps.{Depth}
 use Rattle.steps.proofs.StepLaws.{copied}
 use Rattle.steps.proofs.steps.few_steps.Statement.{statement}
 use Rattle.steps.proofs.steps.few_steps.Tie as tie
 
+long : (s : tie.Start) → numbers (s .args .w) (s .args .h) ≤ length (s .args .net .now)
+long s = ltb-false _ _ (s .pre .2 .long)
+
+few : (s : tie.Start) → s .args .w * s .args .h ≤ 1050625
+few s = few-vertices (good-size (s .args .w) (s .args .h) (s .pre .2 .size))
+
 mul-n : tie.Need-mul-n
-mul-n c = search needs
+mul-n c = omega (arith, few (c .before))
 
 mul-n-2 : tie.Need-mul-n-2
-mul-n-2 c = search needs
+mul-n-2 c = omega (arith, few (c .before))
 
 sub-copy-over : tie.Need-sub-copy-over
 sub-copy-over c = search needs
@@ -27,7 +35,7 @@ part-copy-over-start : tie.Need-part-copy-over-start
 part-copy-over-start c = search needs
 
 part-copy-over-end : tie.Need-part-copy-over-end
-part-copy-over-end c = search needs
+part-copy-over-end c = long (c .before)
 
 copy-over-requires : tie.Need-copy-over-requires
 copy-over-requires c κs =
@@ -59,7 +67,7 @@ returns c =
     ∙ (λ t. over (take (whole t) (s .args .net .now)) (s .args .out .now))
     ∙ ap (λ (l : List ℤ). over l (s .args .out .now))
     (copied (s .args .net .now) (s .args .w) (s .args .h) (s .args .k) (c .before .before .before .before .if1 .taken)
-    (s .pre .2))
+    (long s))
 
 same-length-2 : tie.Need-same-length-2
 same-length-2 c = search needs

@@ -1,6 +1,5 @@
 -- `surface::points::round_point` meets its contract: the quotient is small enough for an i32.
 use mathlib.Core.Path.{_≡_, sym, ap, subst, _∙_}
-use native.Mathlib.Nat.{le-trans}
 use lib.IntN.{ℤ}
 use lib.Dec.{lit<, lit≤}
 use mir.Val.{SFits, toZ, ofZ}
@@ -13,17 +12,17 @@ use Rattle.surface.proofs.Evaluation.{point-small}
 use Rattle.surface.proofs.points.round_point.Statement.{statement}
 use Rattle.surface.proofs.points.round_point.Tie as tie
 
-round-quotient-requires : tie.Need-round-quotient-requires
-round-quotient-requires c κs =
-    (lit< tt, lit≤ tt, read-size w64 (c .args .last) (c .fits .last .sfits) (le-trans (c .pre) (lit≤ tt)))
+round-even-requires : tie.Need-round-even-requires
+round-even-requires c κs =
+    (lit< tt, lit< tt, lit≤ tt, read-size w64 (c .args .last) (c .fits .last .sfits) (c .pre))
 
 -- the quotient of what was handed in
-quotient : (c : tie.After-round-quotient) → toZ w64 (ofZ w64 (c .round-quotient .result)) ≡ rounded (c .before .args .last) 37748736
+quotient : (c : tie.After-round-even) → toZ w64 (ofZ w64 (c .round-even .result)) ≡ rounded (c .before .args .last) 37748736
 quotient c =
-    reads-as w64 (c .round-quotient .result) (c .round-quotient .ok)
-    (c .round-quotient .ensures ∙ ap (λ (z : ℤ). rounded z 37748736) (toZ-ofZ (c .before .fits .last)))
+    reads-as w64 (c .round-even .result) (c .round-even .ok)
+    (c .round-even .ensures ∙ ap (λ (z : ℤ). rounded z 37748736) (toZ-ofZ (c .before .fits .last)))
 
-quotient-fits : (c : tie.After-round-quotient) → SFits w32 (toZ w64 (ofZ w64 (c .round-quotient .result)))
+quotient-fits : (c : tie.After-round-even) → SFits w32 (toZ w64 (ofZ w64 (c .round-even .result)))
 quotient-fits c =
     subst (SFits w32) (sym (quotient c)) (fits-of-size {w = w32} (point-small (c .before .args .last) (c .before .pre)) tt)
 
@@ -34,4 +33,4 @@ returns : tie.Need-returns
 returns c = toZ-ofZ (quotient-fits c) ∙ quotient c
 
 pub round-point-spec : {M : Type 1} → statement M
-round-point-spec = tie.close (tie.spec round-quotient-requires cast-result returns)
+round-point-spec = tie.close (tie.spec round-even-requires cast-result returns)

@@ -1,0 +1,2 @@
+-- The precondition of the rule in lower terms.
+pub mod Reduced
