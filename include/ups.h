@@ -41,12 +41,13 @@
 extern "C" {
 #endif
 
-/* Numbers of a vertex in a net, in details and in given points, of a point and of a Bezier net; words of a vertex in a
- * file. */
+/* Numbers of a vertex in a net, in details and in given points, of a point, of the two points of a seam and of a Bezier
+ * net; words of a vertex in a file. */
 #define UPS_RECORD 9
 #define UPS_DETAIL_RECORD 9
 #define UPS_GIVEN_RECORD 9
 #define UPS_POINT 3
+#define UPS_SEAM_POINTS 6
 #define UPS_BEZIER 57
 #define UPS_FILE_WORDS 9
 
@@ -223,6 +224,23 @@ uint32_t ups_refine(const int32_t *net, size_t net_len, size_t w, size_t h, size
 uint32_t ups_refined_point(const int32_t *net, size_t net_len, size_t w, size_t h, size_t k, size_t p, size_t q,
                            int32_t *out, size_t out_len, int32_t *scratch, size_t scratch_len,
                            int32_t *point, size_t point_len);
+
+/* One place of the net on both sides of a seam, where a refinement by k steps meets one by l: the net after k steps in
+ * out and the net after l steps in out2, as ups_refine gives them, and in points x, y, z of the surface point at place
+ * (p, q) of the first, then x, y, z of that at place (p2, q2) of the second. These are the same place of the net where
+ * p times 2 to the power l is p2 times 2 to the power k, and q and q2 likewise. In each coordinate the two points
+ * differ by at most (k + l + 2)/2 units, and where k = l they are equal; each has the promise of ups_refined_point.
+ * Refuses: UPS_SIZE, UPS_DEPTH (of k or l), UPS_PLACE (of either refined net, or not the same place of the net),
+ * UPS_SHORT, UPS_ROOM (of out, scratch, out2, scratch2 or points), UPS_RANGE.
+ * Lengths: net, out and scratch as ups_refine; out2 and scratch2 as out and scratch with l for k; points
+ * UPS_SEAM_POINTS.
+ * Writes: out and scratch as ups_refine, out2 and scratch2 as these with l for k, and the first UPS_SEAM_POINTS numbers
+ * of points. */
+uint32_t ups_seam_points(const int32_t *net, size_t net_len, size_t w, size_t h, size_t k, size_t l,
+                         size_t p, size_t q, size_t p2, size_t q2,
+                         int32_t *out, size_t out_len, int32_t *scratch, size_t scratch_len,
+                         int32_t *out2, size_t out2_len, int32_t *scratch2, size_t scratch2_len,
+                         int32_t *points, size_t points_len);
 
 /* Whether an outline is one that refining takes.
  * Refuses: UPS_SIZE, UPS_SHORT, UPS_OUTLINE_BYTE, UPS_ROOM (of search), UPS_NOT_CONNECTED.

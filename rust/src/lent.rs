@@ -175,6 +175,58 @@ pub fn refined_point(
     Refusal::check(refusal)
 }
 
+/// The net after k steps into `out` and the net after l steps into `out2`, each as [`refine`]
+/// gives it, and the surface points at one place of `net`: that at place (p, q) of the first
+/// refined net and then that at place (p2, q2) of the second, into [`SEAM_POINTS`] numbers of
+/// `points`. They are one place where p·2^l = p2·2^k and q·2^l = q2·2^k. `scratch` is for k steps
+/// and `scratch2` for l.
+///
+/// This is the call of the promise of a seam, where a refinement by k steps meets one by l: in
+/// each coordinate the two points differ by at most (k + l + 2)/2 units, and where k = l they are
+/// equal. Each has the promise of [`refined_point`].
+///
+/// # Errors
+///
+/// `SIZE`, `DEPTH`, `PLACE`, `SHORT`, `ROOM`, `RANGE`; `PLACE` also where they are not one place.
+///
+/// ```
+/// use ups::{lent::seam_points, Refusal};
+///
+/// let mut net = [0; ups::net_numbers(2, 2)];
+/// net[2] = 120;
+/// let (mut out, mut out2) = ([0; ups::net_numbers(2, 2)], [0; ups::net_numbers(3, 3)]);
+/// let (by, to) = (&mut [], &mut [0; ups::SEAM_POINTS]);
+/// // The middle of the lower edge, without a step and after one; neither needs a scratch.
+/// seam_points(&net, 2, 2, 0, 1, 512, 0, 1024, 0, &mut out, by, &mut out2, &mut [], to)?;
+/// assert_eq!(*to, [0, 0, 40, 0, 0, 40]);
+/// let other = seam_points(&net, 2, 2, 0, 1, 512, 0, 512, 0, &mut out, by, &mut out2, &mut [], to);
+/// assert_eq!(other, Err(Refusal::PLACE));
+/// # Ok::<(), ups::Refusal>(())
+/// ```
+///
+/// [`SEAM_POINTS`]: crate::SEAM_POINTS
+#[inline]
+pub fn seam_points(
+    net: &[i32],
+    w: usize,
+    h: usize,
+    k: usize,
+    l: usize,
+    p: usize,
+    q: usize,
+    p2: usize,
+    q2: usize,
+    out: &mut [i32],
+    scratch: &mut [i32],
+    out2: &mut [i32],
+    scratch2: &mut [i32],
+    points: &mut [i32],
+) -> Result<(), Refusal> {
+    Refusal::check(raw::seam_points(
+        net, w, h, k, l, p, q, p2, q2, out, scratch, out2, scratch2, points,
+    ))
+}
+
 /// Whether an outline of [`triangles`]`(w, h)` bytes is one that [`refine_outlined`] takes. The
 /// first [`triangles`]`(w, h)` numbers of `search` may hold anything afterwards where the outline
 /// is accepted or not connected.

@@ -31,7 +31,8 @@
 //! **Cell** (i, j) lies between columns i and i+1 and rows j and j+1. Its **up triangle** has the
 //! corners (i, j), (i+1, j), (i, j+1), its **down triangle** (i+1, j), (i, j+1), (i+1, j+1).
 //!
-//! A **place** (p, q) counts 1,024ths of an edge: p goes up to 1024(w-1) and q to 1024(h-1).
+//! A **place** (p, q) counts 1,024ths of an edge: p goes up to 1024(w-1) and q to 1024(h-1). In the
+//! net after k steps of refining the same place has 2^k times this p and q.
 //!
 //! Values are rounded to the nearest whole number, halves away from zero (document 02, d). So a
 //! net with a coordinate negated, a left door for a right one, gives points, nets, details and
@@ -46,6 +47,10 @@
 //! **splits** into a **coarse** net, whose refinement has the size of the net again, and the
 //! **details** that this refinement lacks: [`DETAIL_RECORD`] numbers for each vertex, from
 //! -33,554,432 to 33,554,432.
+//!
+//! At a **seam** two refinements of one net meet, by k steps on one side and by l on the other. A
+//! place of it has a point on each side, and these are at most (k + l + 2)/2 units apart:
+//! [`Net::seam_points`].
 //!
 //! **Given points** are a point p and two vectors t1 and t2 for each vertex, [`GIVEN_RECORD`]
 //! numbers that may be any: the net through them has these points at its vertices, and slopes that
@@ -75,6 +80,6 @@ pub use size::{
     coarse_numbers, coarse_side, detail_numbers, file_bytes, file_numbers, given_numbers,
     net_numbers, refined_numbers, refined_triangles, scratch_numbers, side_after, triangles,
     BEZIER, DETAIL_RECORD, EDGE, FILE_WORDS, GIVEN_RECORD, GREATEST_DEPTH, GREATEST_SIDE,
-    LEAST_SIDE, POINT, RECORD,
+    LEAST_SIDE, POINT, RECORD, SEAM_POINTS,
 };
 pub use split::Split;

@@ -199,6 +199,49 @@ impl Net {
         Ok((net, point))
     }
 
+    /// The surface points on both sides of a seam, where the net after k steps of refining meets
+    /// the net after l: at place `at` of the first and at place `at2` of the second, each (p, q)
+    /// of its own grid, which have to be one place of this net. In each coordinate they differ by
+    /// at most (k + l + 2)/2 units, and where k = l they are equal: the promise of
+    /// [`lent::seam_points`].
+    ///
+    /// # Errors
+    ///
+    /// [`DEPTH`](Refusal::DEPTH), [`PLACE`](Refusal::PLACE).
+    ///
+    /// ```
+    /// use ups::{Net, Refusal};
+    ///
+    /// let mut numbers = [0; ups::net_numbers(2, 2)];
+    /// numbers[2] = 120;
+    /// let net = Net::new(2, 2, &numbers)?;
+    /// // A place of the left edge without a step and after 2: at most 2 apart.
+    /// let [one, two] = net.seam_points(0, 2, (0, 320), (0, 1280))?;
+    /// assert_eq!((one, two), ([0, 0, 45], [0, 0, 46]));
+    /// let other = net.seam_points(0, 2, (0, 320), (0, 320));
+    /// assert_eq!(other, Err(Refusal::PLACE));
+    /// # Ok::<(), ups::Refusal>(())
+    /// ```
+    pub fn seam_points(
+        &self,
+        k: usize,
+        l: usize,
+        at: (usize, usize),
+        at2: (usize, usize),
+    ) -> Result<[[i32; POINT]; 2], Refusal> {
+        let (net, w, h) = (&self.numbers, self.width, self.height);
+        let [(mut out, mut by), (mut out2, mut by2)] = [k, l].map(|k| {
+            let scratch = vec![0; scratch_numbers(w, h, k)];
+            (vec![0; refined_numbers(w, h, k)], scratch)
+        });
+        let (out, by, out2, by2) = (&mut out, &mut by, &mut out2, &mut by2);
+        let ((p, q), (p2, q2)) = (at, at2);
+        let mut points = [[0; POINT]; 2];
+        let to = points.as_flattened_mut();
+        lent::seam_points(net, w, h, k, l, p, q, p2, q2, out, by, out2, by2, to)?;
+        Ok(points)
+    }
+
     /// The coarse net and the details of the net.
     ///
     /// # Errors

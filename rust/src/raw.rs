@@ -114,6 +114,30 @@ extern "C" {
         point_len: usize,
     ) -> u32;
 
+    /// [`lent::seam_points`](crate::lent::seam_points).
+    pub fn ups_seam_points(
+        net: *const i32,
+        net_len: usize,
+        w: usize,
+        h: usize,
+        k: usize,
+        l: usize,
+        p: usize,
+        q: usize,
+        p2: usize,
+        q2: usize,
+        out: *mut i32,
+        out_len: usize,
+        scratch: *mut i32,
+        scratch_len: usize,
+        out2: *mut i32,
+        out2_len: usize,
+        scratch2: *mut i32,
+        scratch2_len: usize,
+        points: *mut i32,
+        points_len: usize,
+    ) -> u32;
+
     /// [`lent::check_outline`](crate::lent::check_outline).
     pub fn ups_check_outline(
         outline: *const u8,
@@ -360,6 +384,38 @@ pub(crate) fn refined_point(
             scratch.len(),
             point.as_mut_ptr(),
             point.len(),
+        )
+    }
+}
+
+#[inline]
+pub(crate) fn seam_points(
+    net: &[i32],
+    w: usize,
+    h: usize,
+    k: usize,
+    l: usize,
+    p: usize,
+    q: usize,
+    p2: usize,
+    q2: usize,
+    out: &mut [i32],
+    scratch: &mut [i32],
+    out2: &mut [i32],
+    scratch2: &mut [i32],
+    points: &mut [i32],
+) -> u32 {
+    let (at, len) = (net.as_ptr(), net.len());
+    let (to, room) = (out.as_mut_ptr(), out.len());
+    let (by, by_len) = (scratch.as_mut_ptr(), scratch.len());
+    let (to2, room2) = (out2.as_mut_ptr(), out2.len());
+    let (by2, by2_len) = (scratch2.as_mut_ptr(), scratch2.len());
+    let (both, both_len) = (points.as_mut_ptr(), points.len());
+    // SAFETY: as said above.
+    unsafe {
+        ups_seam_points(
+            at, len, w, h, k, l, p, q, p2, q2, to, room, by, by_len, to2, room2, by2, by2_len,
+            both, both_len,
         )
     }
 }

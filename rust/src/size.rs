@@ -14,6 +14,8 @@ pub const DETAIL_RECORD: usize = 9;
 pub const GIVEN_RECORD: usize = 9;
 /// Numbers of a point.
 pub const POINT: usize = 3;
+/// Numbers of the two points of a seam.
+pub const SEAM_POINTS: usize = 6;
 /// Numbers of a Bézier net: 19 points.
 pub const BEZIER: usize = 57;
 /// Words of a vertex in a file.

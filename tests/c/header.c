@@ -68,6 +68,24 @@ static void check_refined_sides(const int32_t *net, size_t w, size_t h, size_t k
     free(out);
 }
 
+/* The last place on both sides of a seam, where the net meets that after k steps. */
+static void check_seam(const int32_t *net, size_t w, size_t h, size_t k) {
+    size_t n = ups_net_numbers(w, h), refined = ups_refined_numbers(w, h, k), rest = ups_scratch_numbers(w, h, k);
+    size_t p = UPS_EDGE * (w - 1), q = UPS_EDGE * (h - 1), p2 = p << k, q2 = q << k;
+    int32_t *out = numbers(n), *out2 = numbers(refined), *scratch2 = numbers(rest), at[UPS_SEAM_POINTS];
+    check(ups_seam_points(net, n, w, h, 0, k, p, q, p2, q2, out, n, NULL, 0, out2, refined, scratch2, rest, at,
+                          UPS_SEAM_POINTS) == UPS_ACCEPTED, "the last place of a seam");
+    check(ups_seam_points(net, n, w, h, 0, k, p, q, p2 - 1, q2, out, n, NULL, 0, out2, refined, scratch2, rest, at,
+                          UPS_SEAM_POINTS) == UPS_PLACE, "another place of a seam");
+    check(ups_seam_points(net, n, w, h, 0, k, p, q, p2, q2, out, n, NULL, 0, out2, refined - 1, scratch2, rest, at,
+                          UPS_SEAM_POINTS) == UPS_ROOM, "a shorter second output");
+    check(rest == 0 || ups_seam_points(net, n, w, h, 0, k, p, q, p2, q2, out, n, NULL, 0, out2, refined, scratch2,
+                                       rest - 1, at, UPS_SEAM_POINTS) == UPS_ROOM, "a shorter second scratch");
+    free(scratch2);
+    free(out2);
+    free(out);
+}
+
 static void check_steps(size_t w, size_t h, size_t k) {
     size_t n = ups_net_numbers(w, h), refined = ups_refined_numbers(w, h, k), rest = ups_scratch_numbers(w, h, k);
     int32_t *net = numbers(n), *out = numbers(refined), *scratch = numbers(rest);
@@ -81,6 +99,7 @@ static void check_steps(size_t w, size_t h, size_t k) {
         check(rest == 0 || ups_refine(net, n, w, h, k, out, refined, scratch, rest - 1) == UPS_ROOM,
               "a shorter scratch");
         check_refined_sides(net, w, h, k);
+        check_seam(net, w, h, k);
     }
     free(scratch);
     free(out);
@@ -322,13 +341,13 @@ enum {
 };
 
 static int32_t net[NUMBERS], coarse[COARSE], details[DETAILS], given[GIVEN], finer[FINER], bezier[UPS_BEZIER];
-static int32_t at[UPS_POINT];
+static int32_t at[UPS_POINT], second[FINER], both[UPS_SEAM_POINTS];
 static double view[UPS_POINT];
 static uint8_t file[BYTES + 1], outline[TRIANGLES] = {1, 1, 1, 1, 1, 1, 1, 1}, fine[FINER_TRIANGLES];
 static uint32_t search[TRIANGLES];
 static uint64_t written[1], size[2];
 
-/* The lengths of a point and of a Bezier net, exactly. */
+/* The lengths of a point, of the points of a seam and of a Bezier net, exactly. */
 static void check_lengths(void) {
     about("length", SIDE, SIDE, 0);
     check(ups_bezier_net(net, NUMBERS, SIDE, SIDE, 1, 1, 1, bezier, UPS_BEZIER) == UPS_ACCEPTED, "bezier_net");
@@ -339,6 +358,8 @@ static void check_lengths(void) {
     check(ups_view_point(net, NUMBERS, SIDE, SIDE, 0, 0, view, UPS_POINT - 1) == UPS_ROOM, "view_point, less");
     check(ups_refined_point(net, NUMBERS, SIDE, SIDE, 0, 0, 0, finer, FINER, NULL, 0, at, UPS_POINT - 1) == UPS_ROOM,
           "refined_point, less");
+    check(ups_seam_points(net, NUMBERS, SIDE, SIDE, 0, 0, 0, 0, 0, 0, finer, FINER, NULL, 0, second, FINER, NULL, 0,
+                          both, UPS_SEAM_POINTS - 1) == UPS_ROOM, "seam_points, less");
     check(ups_bezier_net_outlined(net, NUMBERS, SIDE, SIDE, outline, TRIANGLES, 1, 1, 1, bezier, UPS_BEZIER - 1) ==
           UPS_ROOM, "bezier_net_outlined, less");
     check(ups_surface_point_outlined(net, NUMBERS, SIDE, SIDE, outline, TRIANGLES, 0, 0, at, UPS_POINT - 1) ==
@@ -443,6 +464,24 @@ static void check_null_refining(void) {
           "refined_point, point");
 }
 
+static void check_null_seam(void) {
+    about("null slice of a seam", SIDE, SIDE, 1);
+    check(ups_seam_points(NULL, 0, SIDE, SIDE, 1, 1, 0, 0, 0, 0, finer, FINER, NULL, 0, second, FINER, NULL, 0, both,
+                          UPS_SEAM_POINTS) == UPS_SHORT, "seam_points, net");
+    check(ups_seam_points(net, NUMBERS, SIDE, SIDE, 1, 1, 0, 0, 0, 0, NULL, 0, NULL, 0, second, FINER, NULL, 0, both,
+                          UPS_SEAM_POINTS) == UPS_ROOM, "seam_points, out");
+    check(ups_seam_points(net, NUMBERS, SIDE, SIDE, 1, 1, 0, 0, 0, 0, finer, FINER, NULL, 0, NULL, 0, NULL, 0, both,
+                          UPS_SEAM_POINTS) == UPS_ROOM, "seam_points, out2");
+    check(ups_seam_points(net, NUMBERS, SIDE, SIDE, 1, 1, 0, 0, 0, 0, finer, FINER, NULL, 0, second, FINER, NULL, 0,
+                          NULL, 0) == UPS_ROOM, "seam_points, points");
+    check(ups_seam_points(net, NUMBERS, SIDE, SIDE, 1, 1, 0, 0, 0, 0, finer, FINER, NULL, 0, second, FINER, NULL, 0,
+                          both, UPS_SEAM_POINTS) == UPS_ACCEPTED, "seam_points, both scratches");
+    check(ups_seam_points(coarse, COARSE, 2, 2, 2, 1, 0, 0, 0, 0, finer, FINER, NULL, 0, second, FINER, NULL, 0, both,
+                          UPS_SEAM_POINTS) == UPS_ROOM, "seam_points twice, scratch");
+    check(ups_seam_points(coarse, COARSE, 2, 2, 1, 2, 0, 0, 0, 0, finer, FINER, NULL, 0, second, FINER, NULL, 0, both,
+                          UPS_SEAM_POINTS) == UPS_ROOM, "seam_points twice, scratch2");
+}
+
 static void check_null_outline(void) {
     about("null slice of an outline", SIDE, SIDE, 0);
     check(ups_check_outline(NULL, 0, SIDE, SIDE, search, TRIANGLES) == UPS_SHORT, "check_outline, outline");
@@ -510,6 +549,7 @@ int main(void) {
     check_outlined();
     check_null_points();
     check_null_refining();
+    check_null_seam();
     check_null_outline();
     check_null_details();
     check_null_given();

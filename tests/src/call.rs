@@ -1,7 +1,9 @@
 //! A call described as data, so that faults can be put into it one by one and the library and
-//! the oracle get the same question. `outlined` has the calls with an outline.
+//! the oracle get the same question. `outlined` has the calls with an outline, `seam` the points of
+//! a seam.
 
 mod outlined;
+mod seam;
 
 use crate::hermite;
 use crate::kernel::{self, LentDetails, LentFile, LentNet, RefinedDoor, RefinedPoint, Room};
@@ -11,7 +13,9 @@ use crate::nets::{self, Numbers};
 use crate::oracle::{self, Faults, POINT_NUMBERS};
 use crate::random::Random;
 use crate::refinement;
+use crate::seam::{RefinedPlace, Seam, Sides, SEAM_NUMBERS};
 pub use outlined::{bezier_asks, outlined_asks, Outlined};
+pub(crate) use seam::sides_answer;
 use std::fmt;
 
 #[derive(Clone, Copy, Debug, PartialEq, Eq)]
@@ -47,6 +51,7 @@ pub enum Ask {
         scratch_len: usize,
         point_len: usize,
     },
+    SeamPoints(Seam),
     Split {
         details_len: usize,
     },
@@ -86,7 +91,7 @@ impl Ask {
 
 /// Each call that takes a net of any size; those that name a vertex, a triangle or a place on
 /// the first up triangle.
-pub const ASKS: [Ask; 7] = [
+pub const ASKS: [Ask; 8] = [
     Ask::Vertex { i: 0, j: 0 },
     Ask::Bezier {
         i: 0,
@@ -107,6 +112,14 @@ pub const ASKS: [Ask; 7] = [
         scratch_len: 0,
         point_len: POINT_NUMBERS,
     },
+    Ask::SeamPoints(Seam {
+        places: [RefinedPlace {
+            k: 0,
+            place: (300, 200),
+        }; 2],
+        scratch_lens: [0; 2],
+        points_len: SEAM_NUMBERS,
+    }),
 ];
 
 /// The most bytes or numbers that `Call::new` lends, since sizes may be far too great. A file of
@@ -126,6 +139,8 @@ pub struct Call {
     pub ask: Ask,
     /// For split the length of the output for the coarse net, for clean unused.
     pub out_len: usize,
+    /// For a seam the length of the output for the second refined net, else 0.
+    pub out2_len: usize,
     /// Empty but for merge.
     pub details: Vec<i32>,
     /// For checking, and where the call is the one with an outline.
@@ -142,6 +157,7 @@ pub enum Answer {
     Refined(RefinedPoint),
     Split(Split),
     Door(RefinedDoor),
+    Sides(Sides),
 }
 
 impl Answer {
@@ -198,6 +214,7 @@ impl Call {
             Ask::Refine { k, .. } | Ask::RefinedPoint { k, .. } => {
                 lent_len(refinement::refined_len((w, h), k))
             }
+            Ask::SeamPoints(seam) => lent_len(refinement::refined_len((w, h), seam.places[0].k)),
             Ask::Split { .. } => lent_len(multiresolution::coarse_len((w, h))),
             Ask::Merge => lent_len(refinement::refined_len((w, h), 1)),
             Ask::FromPoints => lent_len(hermite::net_len((w, h))),
@@ -213,6 +230,7 @@ impl Call {
             h,
             ask,
             out_len,
+            out2_len: Call::second_len((w, h), ask),
             details: vec![0; details_len],
             outline: None,
         }
@@ -267,15 +285,11 @@ impl Call {
                 q,
                 scratch_len,
                 point_len,
-            } => refinement::refined_point_faults(
-                net,
-                size,
-                k,
-                (p, q),
-                self.out_len,
-                scratch_len,
-                point_len,
-            ),
+            } => {
+                let out = self.out_len;
+                refinement::refined_point_faults(net, size, k, (p, q), out, scratch_len, point_len)
+            }
+            Ask::SeamPoints(seam) => self.seam_faults(&seam),
             Ask::Split { details_len } => {
                 multiresolution::split_faults(net, size, self.out_len, details_len)
             }
@@ -312,15 +326,14 @@ impl Call {
                 let point = refinement::point_of(&refined, size, (p, q));
                 (refined, point)
             })),
+            Ask::SeamPoints(seam) => self.seam_of_oracle(&seam),
             Ask::Split { details_len } => {
                 split_answer(multiresolution::split(net, size, self.out_len, details_len))
             }
-            Ask::Merge => list_answer(multiresolution::merge(
-                net,
-                &self.details,
-                size,
-                self.out_len,
-            )),
+            Ask::Merge => {
+                let (details, out) = (&self.details, self.out_len);
+                list_answer(multiresolution::merge(net, details, size, out))
+            }
             Ask::Clean { t } => list_answer(multiresolution::clean(net, size, t)),
             Ask::FromPoints => list_answer(hermite::from_points(net, size, self.out_len)),
             Ask::Check => panic!("no outline"),
@@ -360,6 +373,7 @@ impl Call {
                 let room = Room::new(self.out_len, scratch_len);
                 refined_answer(net.refined_point(size, k, (p, q), room, point_len))
             }
+            Ask::SeamPoints(seam) => self.seam_of_kernel(net, &seam),
             Ask::Split { details_len } => split_answer(net.split(size, self.out_len, details_len)),
             Ask::Merge => {
                 let details = LentDetails::new(&self.details);

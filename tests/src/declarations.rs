@@ -227,8 +227,9 @@ fn compare_records(report: &mut Report, texts: &Texts) {
 }
 
 /// The ends of the names of the other constants that the header and the Rust crate share.
-const CONSTANTS: [&str; 7] = [
+const CONSTANTS: [&str; 8] = [
     "POINT",
+    "SEAM_POINTS",
     "BEZIER",
     "FILE_WORDS",
     "EDGE",

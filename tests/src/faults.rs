@@ -1,4 +1,7 @@
-//! Faults to put into a call, by their numbers.
+//! Faults to put into a call, by their numbers; of a seam, into its first side. `seam` has those of
+//! its second side.
+
+mod seam;
 
 use crate::call::{Ask, Call};
 use crate::netfile;
@@ -6,13 +9,18 @@ use crate::oracle::LIMIT;
 use crate::order::{self, Fault};
 use crate::record::{self, GIVEN_RECORD, RECORD};
 use crate::refinement;
+use crate::seam::{RefinedPlace, Seam};
+pub use seam::{second_output_faults, second_place_faults, second_step_faults};
 
 const MAX: usize = usize::MAX;
 
 type Size = (usize, usize);
 
 pub fn refines(ask: Ask) -> bool {
-    matches!(ask, Ask::Refine { .. } | Ask::RefinedPoint { .. })
+    matches!(
+        ask,
+        Ask::Refine { .. } | Ask::RefinedPoint { .. } | Ask::SeamPoints(_)
+    )
 }
 
 /// Numbers of a vertex in the net, or in the given points, that a call is lent to read.
@@ -54,7 +62,13 @@ pub fn size_faults() -> Vec<Fault> {
 }
 
 fn set_steps(call: &mut Call, steps: usize) {
-    if let Ask::Refine { k, .. } | Ask::RefinedPoint { k, .. } = &mut call.ask {
+    if let Ask::Refine { k, .. }
+    | Ask::RefinedPoint { k, .. }
+    | Ask::SeamPoints(Seam {
+        places: [RefinedPlace { k, .. }, _],
+        ..
+    }) = &mut call.ask
+    {
         *k = steps;
     }
 }
@@ -84,6 +98,11 @@ fn column(call: &mut Call, beyond: fn(usize) -> usize) {
         Ask::Bezier { i, .. } => *i = beyond(w.wrapping_sub(1)),
         Ask::Surface { p, .. } | Ask::View { p, .. } => *p = beyond(beyond_grid(w, 0)),
         Ask::RefinedPoint { p, k, .. } => *p = beyond(beyond_grid(w, *k)),
+        Ask::SeamPoints(Seam {
+            places: [at, _], ..
+        }) => {
+            at.place.0 = beyond(beyond_grid(w, at.k));
+        }
         _ => {}
     }
 }
@@ -95,6 +114,11 @@ fn row(call: &mut Call, beyond: fn(usize) -> usize) {
         Ask::Bezier { j, .. } => *j = beyond(h.wrapping_sub(1)),
         Ask::Surface { q, .. } | Ask::View { q, .. } => *q = beyond(beyond_grid(h, 0)),
         Ask::RefinedPoint { q, k, .. } => *q = beyond(beyond_grid(h, *k)),
+        Ask::SeamPoints(Seam {
+            places: [at, _], ..
+        }) => {
+            at.place.1 = beyond(beyond_grid(h, at.k));
+        }
         _ => {}
     }
 }
@@ -141,7 +165,13 @@ fn no_count(call: &mut Call) {
 }
 
 fn shorten_scratch(call: &mut Call, shorter: fn(usize) -> usize) {
-    if let Ask::Refine { scratch_len, .. } | Ask::RefinedPoint { scratch_len, .. } = &mut call.ask {
+    if let Ask::Refine { scratch_len, .. }
+    | Ask::RefinedPoint { scratch_len, .. }
+    | Ask::SeamPoints(Seam {
+        scratch_lens: [scratch_len, _],
+        ..
+    }) = &mut call.ask
+    {
         *scratch_len = shorter(*scratch_len);
     }
 }
@@ -164,7 +194,13 @@ pub fn output_faults(ask: Ask) -> Vec<Fault> {
         }
         _ => {}
     }
-    if let Ask::Refine { k: 2.., .. } | Ask::RefinedPoint { k: 2.., .. } = ask {
+    if let Ask::Refine { k: 2.., .. }
+    | Ask::RefinedPoint { k: 2.., .. }
+    | Ask::SeamPoints(Seam {
+        places: [RefinedPlace { k: 2.., .. }, _],
+        ..
+    }) = ask
+    {
         faults.push(|c| shorten_scratch(c, |needed| needed - 1));
         faults.push(|c| shorten_scratch(c, |_| 0));
     }

@@ -4,9 +4,10 @@
 //! canaries and every input are unchanged, that a refusal left every output, and the details
 //! lent to clean, unchanged bit for bit, and that an accepted call left everything behind its
 //! result, and behind what is free of a scratch or of a search, unchanged. `outlined` has the calls
-//! with an outline.
+//! with an outline, `seam` the points of a seam.
 
 mod outlined;
+mod seam;
 
 use crate::hermite;
 use crate::multiresolution::{self, Split};
@@ -18,6 +19,7 @@ use crate::record;
 use crate::refinement;
 pub(crate) use outlined::RefiningDoor;
 pub use outlined::{DoorRoom, LentOutline, RefinedDoor};
+pub(crate) use seam::LentSides;
 use std::cell::RefCell;
 use std::ops::Range;
 use ups::raw;

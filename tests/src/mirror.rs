@@ -6,6 +6,7 @@ use crate::multiresolution::Split;
 use crate::netfile::{self, FileNet};
 use crate::oracle::{self, POINT_NUMBERS};
 use crate::record::{DETAIL_RECORD, GIVEN_RECORD, POINT_RECORD};
+use crate::seam::Sides;
 
 /// Which of x, y, z are negated.
 #[derive(Clone, Copy, Debug)]
@@ -102,6 +103,10 @@ impl Mirror {
                 numbers: self.net(&door.numbers),
                 outline: door.outline.clone(),
                 point: door.point.map(|point| self.point(point)),
+            }),
+            Answer::Sides(Sides { nets, points }) => Answer::Sides(Sides {
+                nets: nets.each_ref().map(|net| self.net(net)),
+                points: points.map(|point| self.point(point)),
             }),
         }
     }

@@ -6,6 +6,7 @@ use crate::nets::{self, Numbers, NUMBERS};
 use crate::oracle::LIMIT;
 use crate::random::Random;
 use crate::refinement;
+use crate::seam::{self, Seam};
 use crate::shapes;
 
 /// Sides, vertices, places, steps and thresholds, of which some are refused everywhere.
@@ -67,6 +68,15 @@ pub fn refined_point(random: &mut Random) -> Call {
     let refined = refinement::refined_size(size, k).expect("a size");
     let place = random_place(random, refined);
     Call::new(&net, size, Ask::refined_point(size, k, place))
+}
+
+pub fn seam_points(random: &mut Random) -> Call {
+    let (net, size) = random_net(random);
+    let steps = [random.below(3), random.below(3)];
+    let coarser = refinement::refined_size(size, steps[0].min(steps[1])).expect("a size");
+    let place = random_place(random, coarser);
+    let places = seam::one_place(steps, place);
+    Call::new(&net, size, Ask::seam_points(size, places))
 }
 
 /// May be refused by 11.
@@ -185,6 +195,10 @@ fn set_argument(random: &mut Random, call: &mut Call) {
         | Ask::View { p: a, q: b } => *[a, b][random.below(2)] = wild,
         Ask::Refine { k, .. } => *k = wild,
         Ask::RefinedPoint { k, p, q, .. } => *[k, p, q][random.below(3)] = wild,
+        Ask::SeamPoints(Seam { places, .. }) => {
+            let at = &mut places[random.below(2)];
+            *[&mut at.k, &mut at.place.0, &mut at.place.1][random.below(3)] = wild;
+        }
         Ask::Clean { t } => *t = wild as u32,
         Ask::Write { .. } | Ask::Split { .. } | Ask::Merge | Ask::FromPoints | Ask::Check => {}
     }
@@ -259,6 +273,11 @@ fn less_room_beside(random: &mut Random, call: &mut Call) {
             point_len,
             ..
         } => [scratch_len, point_len][random.below(2)],
+        Ask::SeamPoints(Seam {
+            scratch_lens: [one, two],
+            points_len,
+            ..
+        }) => [one, two, points_len, &mut call.out2_len][random.below(4)],
         Ask::Split { details_len } => details_len,
         _ => return,
     };

@@ -112,7 +112,7 @@ pub(crate) fn too_short(len: usize, needed: Option<usize>) -> bool {
 }
 
 /// Whether `out` or the scratch is too short.
-fn no_room(size: (usize, usize), k: usize, out: usize, scratch: usize) -> bool {
+pub(crate) fn no_room(size: (usize, usize), k: usize, out: usize, scratch: usize) -> bool {
     too_short(out, refined_len(size, k)) || too_short(scratch, scratch_len(size, k))
 }
 

@@ -1,11 +1,13 @@
 //! The questions of `call` put to the safe interface of the crate `ups`: to its functions on lent
-//! slices, in the same guarded memory, and to its nets. `outlined` has those with an outline.
+//! slices, in the same guarded memory, and to its nets. `outlined` has those with an outline, `seam`
+//! the points of a seam.
 
 mod outlined;
+mod seam;
 
 use crate::call::{
-    bits_answer, bytes_answer, list_answer, numbers_answer, refined_answer, split_answer,
-    vertex_answer, Answer, Ask, Call, Reading,
+    bits_answer, bytes_answer, list_answer, numbers_answer, refined_answer, sides_answer,
+    split_answer, vertex_answer, Answer, Ask, Call, Reading,
 };
 use crate::hermite;
 use crate::kernel::{count, Output, RefinedPoint, Refining, Room};
@@ -48,6 +50,7 @@ impl Call {
                 let room = Room::new(self.out_len, scratch_len);
                 refined_answer(self.lent_refined_point(k, (p, q), room, point_len))
             }
+            Ask::SeamPoints(seam) => sides_answer(self.lent_seam_points(&seam)),
             Ask::Split { details_len } => split_answer(self.lent_split(details_len)),
             Ask::Merge => list_answer(self.lent_merge()),
             Ask::Clean { t } => list_answer(self.lent_clean(t)),
@@ -189,6 +192,7 @@ impl Call {
                 let (refined, point) = net.refined_point(k, p, q)?;
                 Answer::Refined((self.refined_by(k, refined), point))
             }
+            Ask::SeamPoints(seam) => seam::points_of(&net, &seam)?,
             Ask::Split { .. } => Answer::Split(self.parts(&net.split()?)),
             Ask::Merge => {
                 let split = ups::Split::new(net, &self.details)?;
@@ -227,7 +231,7 @@ impl Call {
         let (size, room) = ((self.w, self.h), usize::MAX);
         let made = refinement::refine_faults(&self.net, size, 0, room, room);
         match (oracle::refusal(&made), &self.outline) {
-            (0, None) => self.with_room().of_oracle(),
+            (0, None) => seam::points_alone(self.with_room().of_oracle()),
             (0, Some(outline)) => self.of_oracle_door(outline),
             (number, _) => Answer::Refused(number),
         }
@@ -238,6 +242,7 @@ impl Call {
         let ask = match self.ask {
             Ask::Refine { k, .. } => Ask::refine(size, k),
             Ask::RefinedPoint { k, p, q, .. } => Ask::refined_point(size, k, (p, q)),
+            Ask::SeamPoints(seam) => Ask::seam_points(size, seam.places),
             Ask::Split { .. } => Ask::split(size),
             ask => ask,
         };

@@ -2,3 +2,4 @@
 pub mod Distance
 pub mod Range
 pub mod DemandThree
+pub mod SamePlaces

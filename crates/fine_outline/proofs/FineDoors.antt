@@ -11,9 +11,10 @@ use borrow.Author.Tests.{leb-true, leb-false, le-leb, lt-leb}
 use Rattle.net.specs.Net.{Triangle, triangleAt}
 use Rattle.places.specs.Places.{LiesIn, LiesBy}
 use Rattle.outline.specs.Outline.{inCell, Present}
+use Rattle.steps.proofs.Sides.{some-cells}
 use Rattle.fine_outline.specs.FineOutline.{parentBy, parent}
 use Rattle.fine_outline.specs.Promises.{FineDoor}
-use Rattle.fine_outline.proofs.Parents.{Split, split-of, some-cells, parent-parts}
+use Rattle.fine_outline.proofs.Parents.{Split, split-of, parent-parts}
 use Rattle.fine_outline.proofs.FineBytes.{parent-present, child-present}
 
 -- ---- from a fine triangle to its parent

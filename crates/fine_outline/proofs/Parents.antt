@@ -3,17 +3,18 @@
 use mathlib.Core.Path.{_≡_, refl, sym, ap, _∙_}
 use mathlib.Core.Bool.{Bool, true, false}
 use Prim.Native.Nat.{ℕ, zero, suc, _+_, _-_, _*_, _/_, _%_, _^_, _≤_, _<_}
-use native.Mathlib.Nat.{mul-comm, mul-assoc, pow-succ', one-le-pow, mod-lt, div-add-mod, div-one, mod-one, div-lt-iff-lt-mul}
+use native.Mathlib.Nat.{mul-comm, mul-assoc, pow-succ', mod-lt, div-add-mod, div-one, mod-one, div-lt-iff-lt-mul}
 use native.Mathlib.Omega.{arith}
 use native.Mathlib.Decide.{decLt}
 use lib.Arith.{digits-div, digits-mod}
-use lib.Dec.{leb, lit<}
+use lib.Dec.{leb}
 use borrow.Author.Tests.{leb-true, leb-false, le-leb, lt-leb}
 use Rattle.net.specs.Net.{Index, one, two, three, Triangle, triangleAt, OfNet, cornerOf}
 use Rattle.places.specs.Places.{LiesBy}
 use Rattle.subdivision.specs.Refinement.{sideAfter}
 use Rattle.outline.specs.Outline.{inCell}
 use Rattle.outline.proofs.Numbers.{in-cell}
+use Rattle.steps.proofs.Sides.{some-cells, side-cells}
 use Rattle.fine_outline.specs.FineOutline.{LiesWithin, parentBy, parent}
 
 -- ---- quotients and remainders
@@ -33,9 +34,6 @@ split-quotient {s} {n} {i} {f} p =
 pub split-remainder : {s n i f : ℕ} → Split s n i f → n % s ≡ f
 split-remainder {s} {n} {i} {f} p =
     ap (λ (m : ℕ). m % s) (omega (arith, p .whole, mul-comm s i)) ∙ digits-mod i (p .below)
-
-pub some-cells : (k : ℕ) → 0 < 2 ^ k
-some-cells k = omega (arith, one-le-pow k 2 (lit< tt))
 
 -- the parent by the parts of the column and of the row
 pub parent-parts : {s c r i f j g : ℕ} (d : Bool) → Split s c i f → Split s r j g →
@@ -192,13 +190,6 @@ parent-steps k t =
     (λ h. omega (arith, h, halved, pow-succ' 2 k)) (λ h. omega (arith, h, halved, pow-succ' 2 k)))
 
 -- ---- the triangles of the refined net are those whose parent is of the net
-
-pub side-cells : (k n : ℕ) → 1 ≤ n → sideAfter k n ≡ 2 ^ k * (n - 1) + 1
-side-cells zero n a = omega (arith, a)
-side-cells (suc k) n a =
-    let twice : 2 ^ suc k * (n - 1) ≡ 2 * (2 ^ k * (n - 1)) =
-    ap (λ (m : ℕ). m * (n - 1)) (pow-succ' 2 k) ∙ mul-assoc 2 (2 ^ k) (n - 1) in
-    omega (arith, side-cells k n a, twice)
 
 cell-of-side : (k n c : ℕ) → 2 ≤ n → c + 2 ≤ sideAfter k n → c / 2 ^ k + 2 ≤ n
 cell-of-side k n c a b =

@@ -16,9 +16,10 @@ use Rattle.subdivision.specs.Refinement.{sideAfter}
 use Rattle.outline.specs.Outline.{triangles, inCell, byteOf, triangleOf}
 use Rattle.outline.proofs.Numbers.{byte-in-cell}
 use Rattle.steps.specs.Steps.{Depth}
+use Rattle.steps.proofs.Sides.{some-cells, side-cells}
 use Rattle.fine_outline.specs.FineOutline.{parentBy, parent, fineOutline}
 use Rattle.fine_outline.specs.Rows.{cellRun, partRun, rowRun, RowReady}
-use Rattle.fine_outline.proofs.Parents.{split-of, some-cells, parent-parts, side-cells}
+use Rattle.fine_outline.proofs.Parents.{split-of, parent-parts}
 
 -- a runs of b runs each
 runs-of-runs : {A : Type 0} (a b : ℕ) (f : ℕ → List A) → runs (a * b) f ≡ runs a (λ i. runs b (λ j. f (i * b + j)))

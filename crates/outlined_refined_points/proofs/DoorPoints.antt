@@ -28,7 +28,7 @@ use Rattle.subdivision.specs.Refinement.{sideAfter}
 use Rattle.bounds.specs.DemandThree.{fineEdge}
 use Rattle.steps.specs.RefinedNet.{refinedNet}
 use Rattle.steps.specs.Steps.{Depth}
-use Rattle.refine.specs.Answers.{refusalOf}
+use Rattle.refine.specs.Answers.{refusalOf, refineOutput}
 use Rattle.refine.proofs.Depths.{good-depth}
 use Rattle.refine.proofs.Refinable.{refine-accepted}
 use Rattle.refined_points.specs.DemandThree.{Claimed}
@@ -76,7 +76,7 @@ module _ (net : List ℤ) (w h k : ℕ) (outline : List ℕ) (out scratch : List
       searchable-by net w h k outline (length out) (length scratch) (length fine) (length search)
       (clear-none before (clear .0))
 
-  plain-none : refusalOf net w h k out scratch ≡ 0
+  pub plain-none : refusalOf net w h k out scratch ≡ 0
   plain-none =
       sym (plain-refusal net w h k outline out scratch (length fine) (length search) ready)
       ∙ sym (cond-false (netBeyond net w h) 3 0 (clear .1 .1 .0) refl)
@@ -142,13 +142,21 @@ module _ (net : List ℤ) (w h k : ℕ) (outline : List ℕ) (out scratch : List
         let r = outlinedRefusalOf net w h k outline out scratch fine search in
         λ t. outlinedPointAnswer (when-accepted r left out none t) wide high (when-accepted r leftOutline fine none t) p q
 
-pub refined-door-points : RefinedDoorPoints
-refined-door-points net w h k outline out scratch fine search none p q place d =
-    subst (Claimed net w h k p q)
-    (ap (λ (l : List ℤ). pointAnswer l (sideAfter k w) (sideAfter k h) p q)
+-- of the plain calls: refining, and then a surface point
+pub door-plain : (net : List ℤ) (w h k : ℕ) (outline : List ℕ) (out scratch : List ℤ) (fine search : List ℕ)
+    (none : outlinedRefusalOf net w h k outline out scratch fine search ≡ 0) (p q : ℕ) →
+    OnGrid 1024 (sideAfter k w) (sideAfter k h) p q → OnDoor (fineEdge k) outline w h p q →
+    pointAnswer (refineOutput net w h k out scratch) (sideAfter k w) (sideAfter k h) p q
+    ≡ doorAnswer net w h k outline out scratch fine search p q
+door-plain net w h k outline out scratch fine search none p q place d =
+    ap (λ (l : List ℤ). pointAnswer l (sideAfter k w) (sideAfter k h) p q)
     (sym (when-accepted (refusalOf net w h k out scratch) (over (refinedNet net w h k) out) out (plain-none net w h k outline out scratch fine search none)))
     ∙ plain-answer net w h k outline out scratch fine search none p q place d
-    ∙ as-left net w h k outline out scratch fine search none p q place)
+    ∙ as-left net w h k outline out scratch fine search none p q place
+
+pub refined-door-points : RefinedDoorPoints
+refined-door-points net w h k outline out scratch fine search none p q place d =
+    subst (Claimed net w h k p q) (door-plain net w h k outline out scratch fine search none p q place d)
     (refined-points net w h k out scratch (plain-none net w h k outline out scratch fine search none) p q place)
 
 pub off-door : OffDoor

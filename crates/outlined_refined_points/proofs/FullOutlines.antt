@@ -17,14 +17,14 @@ use Rattle.door.specs.Door.{onDoor}
 use Rattle.door.proofs.FullDoors.{full-on-door}
 use Rattle.subdivision.specs.Refinement.{sideAfter}
 use Rattle.bounds.specs.DemandThree.{fineEdge}
+use Rattle.steps.proofs.Sides.{some-cells}
 use Rattle.refine.specs.Refusals.{tooDeep}
 use Rattle.refined_points.specs.Refusals.{offGrid}
 use Rattle.refined_points.specs.Answers.{refusalAt, refinedSurfacePoint}
-use Rattle.fine_outline.proofs.Parents.{some-cells}
+use Rattle.refined_points.proofs.EdgeCounts.{same-grid}
 use Rattle.outlined_refine.proofs.FullOutlines.{plain-short}
 use Rattle.outlined_refined_points.specs.Answers.{outlinedRefusalAt}
 use Rattle.outlined_refined_points.specs.Promises.{FullOutlineRefinedPoints}
-use Rattle.outlined_refined_points.proofs.EdgeCounts.{same-grid}
 
 module _ (outline : List ℕ) (w h : ℕ) (full : Full outline w h) (k p q : ℕ) where
   full-fine-door : badSize w h ≡ false → offGrid w h k p q ≡ false → onDoor (fineEdge k) outline w h p q ≡ true

@@ -1,5 +1,4 @@
 -- Laws of refining with an outline and then a point, and demand 3 on the door.
-pub mod EdgeCounts
 pub mod CallLaws
 pub mod DoorPoints
 pub mod FullOutlines

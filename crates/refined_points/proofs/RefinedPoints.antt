@@ -30,7 +30,7 @@ use Rattle.bounds.proofs.DemandThree.{demand-three}
 use Rattle.steps.specs.RefinedNet.{Fields, refinedNet}
 use Rattle.steps.proofs.StoredNets.{stored-field, refined-length}
 use Rattle.refine.specs.Refusals.{tooShort, sizeFaults, netFaults}
-use Rattle.refine.specs.Answers.{refusalOf}
+use Rattle.refine.specs.Answers.{refusalOf, refineOutput}
 use Rattle.steps.proofs.RefinedNets.{refined-accepted}
 use Rattle.refine.proofs.Refinable.{Refinable, refinable-by, refine-accepted}
 use Rattle.refined_points.specs.Refusals.{offGrid, refinedPointRefusal}
@@ -135,14 +135,28 @@ module _ (net : List ℤ) (w h k : ℕ) (out : List ℤ) {scratchLength : ℕ} (
 
 -- ---- demand 3
 
+-- the surface point on what refining left, as the three coordinates and as the point of the refined net
+answered-left : (net : List ℤ) (w h k : ℕ) (out scratch : List ℤ) (e : refusalOf net w h k out scratch ≡ 0) (p q : ℕ)
+    (place : OnGrid 1024 (sideAfter k w) (sideAfter k h) p q) →
+    (0, coordinates net w h k out (refine-accepted net w h k (length out) (length scratch) e) p q place)
+    ≡ pointAnswer (refineOutput net w h k out scratch) (sideAfter k w) (sideAfter k h) p q
+answered-left net w h k out scratch e p q place =
+    point-answered net w h k out (refine-accepted net w h k (length out) (length scratch) e) p q place
+    ∙ ap (λ (l : List ℤ). pointAnswer l (sideAfter k w) (sideAfter k h) p q)
+    (when-accepted (refusalOf net w h k out scratch) (over (refinedNet net w h k) out) out e)
+
+pub refined-answer : (net : List ℤ) (w h k : ℕ) (out scratch : List ℤ) → refusalOf net w h k out scratch ≡ 0 →
+    (p q : ℕ) → OnGrid 1024 (sideAfter k w) (sideAfter k h) p q →
+    (0, refinedSurfacePoint net w h k p q)
+    ≡ pointAnswer (refineOutput net w h k out scratch) (sideAfter k w) (sideAfter k h) p q
+refined-answer net w h k out scratch e p q place =
+    let t = refine-accepted net w h k (length out) (length scratch) e in
+    (λ i. (0, sym (point-of-refined net w h k out t p q place) i)) ∙ answered-left net w h k out scratch e p q place
+
 pub refined-points : RefinedPoints
 refined-points net w h k out scratch e p q place =
-    let t = refine-accepted net w h k (length out) (length scratch) e in
-    subst (Claimed net w h k p q)
-    (point-answered net w h k out t p q place
-    ∙ ap (λ (l : List ℤ). pointAnswer l (sideAfter k w) (sideAfter k h) p q)
-    (when-accepted (refusalOf net w h k out scratch) (over (refinedNet net w h k) out) out e))
-    (claimed net w h k out t p q place)
+    subst (Claimed net w h k p q) (answered-left net w h k out scratch e p q place)
+    (claimed net w h k out (refine-accepted net w h k (length out) (length scratch) e) p q place)
 
 -- of the answer of the call that does both
 pub answer-claimed : (net : List ℤ) (w h k p q : ℕ) (other : Bool) (out scratch : List ℤ) {outcome : ℕ × List ℤ} →

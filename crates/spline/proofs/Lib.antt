@@ -1,5 +1,6 @@
--- The laws of the exact spline: weights, and the same value in every triangle.
+-- The laws of the exact spline: weights, and the same value in every triangle and at every edge count.
 pub mod GridSums
 pub mod Located
 pub mod ControlWeights
 pub mod AnyTriangle
+pub mod EdgeCounts

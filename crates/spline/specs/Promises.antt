@@ -2,7 +2,7 @@
 use mathlib.Core.Path.{_≡_}
 use mathlib.Core.Bool.{Bool}
 use Prim.Native.Nat.{ℕ, _*_, _<_}
-use lib.IntN.{pos}
+use lib.IntN.{pos, _*ℤ_}
 use lib.Signed.{_≤ℤ_}
 use Rattle.exact.specs.WeightedSum.{weightedSum, total}
 use Rattle.net.specs.Net.{Index, Triangle, OfNet, Field}
@@ -18,6 +18,13 @@ AnyTriangle =
     (F : Field) (w h D p q : ℕ) (t : Triangle) (o : Order) → 0 < D → OfNet w h t → LiesIn D p q t →
     Descending (sharesIn D p q t) o →
     valueIn (t .down) (controlsOf F t) o (sharesIn D p q t) ≡ spline F w h D p q
+
+-- at c times the edge count, c times the place is the same place of the net: the exact value is the same, and so c²
+-- times as much where it is written times 36·(c·D)² instead of 36·D² (`edge-counts`)
+abbrev pub EdgeCounts : Type 0
+EdgeCounts =
+    (F : Field) (w h D p q c : ℕ) → 0 < c →
+    spline F w h (c * D) (c * p) (c * q) ≡ pos (c * c) *ℤ spline F w h D p q
 
 -- in each triangle that a place lies in, the exact value is a weighted sum of the nine control values
 -- (`spline-by-weights`), whose weights sum to 36·D² (`weights-total`), are at least 0 (`weight-not-negative`), and

@@ -1,7 +1,7 @@
 -- Sides after k steps: how they grow.
-use mathlib.Core.Path.{_≡_, ap, subst}
-use Prim.Native.Nat.{ℕ, zero, suc, _-_, _*_, _^_, _≤_}
-use native.Mathlib.Nat.{le-refl, le-trans, mul-le-mul, pow-suc, pow-le-pow-right}
+use mathlib.Core.Path.{_≡_, ap, subst, _∙_}
+use Prim.Native.Nat.{ℕ, zero, suc, _+_, _-_, _*_, _^_, _≤_, _<_}
+use native.Mathlib.Nat.{le-refl, le-trans, mul-le-mul, mul-assoc, pow-suc, pow-succ', pow-le-pow-right, one-le-pow}
 use native.Mathlib.Omega.{arith}
 use lib.Dec.{lit<}
 use Rattle.subdivision.specs.Refinement.{refinedSide, sideAfter}
@@ -32,6 +32,17 @@ side-last zero n a = absurd (omega (arith, a))
 side-last (suc k) n a =
     let last : suc k - 1 ≡ k = omega arith in
     ap (λ (m : ℕ). refinedSide (sideAfter m n)) last
+
+-- a cell of the starting net has 2^k by 2^k cells after k steps, at least one
+pub some-cells : (k : ℕ) → 0 < 2 ^ k
+some-cells k = omega (arith, one-le-pow k 2 (lit< tt))
+
+pub side-cells : (k n : ℕ) → 1 ≤ n → sideAfter k n ≡ 2 ^ k * (n - 1) + 1
+side-cells zero n a = omega (arith, a)
+side-cells (suc k) n a =
+    let twice : 2 ^ suc k * (n - 1) ≡ 2 * (2 ^ k * (n - 1)) =
+    ap (λ (m : ℕ). m * (n - 1)) (pow-succ' 2 k) ∙ mul-assoc 2 (2 ^ k) (n - 1) in
+    omega (arith, side-cells k n a, twice)
 
 -- a side and a number of steps that `side_after` takes
 abbrev pub SideReady : ℕ → ℕ → Type 0

@@ -3,7 +3,7 @@ use mathlib.Core.Path.{_≡_, refl, sym, ap, subst, _∙_}
 use mathlib.Core.Bool.{Bool, true, false, cond, _||_}
 use mathlib.Core.List.{List, [], _∷_}
 use Prim.Native.Nat.{ℕ, _≤_, _<_, _^_}
-use lib.Dec.{ltb, eqb}
+use lib.Dec.{ltb, eqb, lit<}
 use lib.IntN.{ℤ}
 use lib.ListN.{length, take, set}
 use lib.Seq.{sets}
@@ -27,8 +27,11 @@ use Rattle.outlined_points.specs.Answers.{outlinedBezierOutput}
 use Rattle.outlined_points.proofs.Answers as outlined
 use Rattle.refine.proofs.CallLaws.{Left}
 use Rattle.refined_points.specs.DemandThree.{Claimed}
+use Rattle.seam.specs.Answers.{seamPoints, SeamHolds}
+use Rattle.seam.specs.Contract.{SeamLeft}
+use Rattle.seam.proofs.CallLaws.{joinable}
 use Rattle.outlined_refine.specs.Answers.{OutlinedLeft}
-use Rattle.ups.specs.Exports.{bezierExport, pointExport, outlinedPointExport}
+use Rattle.ups.specs.Exports.{bezierExport, pointExport, seamExport, outlinedPointExport}
 
 -- a test that is joined by one that fails
 or-false : (a : Bool) {b : Bool} → b ≡ false → a ≡ (a || b)
@@ -160,6 +163,55 @@ claimed-exported net w h k p q {r} values out {after} claim e three left =
     let front : values ≡ take 3 after = sym (take-over values out) ∙ (λ t. take (three t) (over values out))
     ∙ sym (ap (take 3) left) in
     subst (Claimed net w h k p q) (e ∙ (λ t. (r, front t))) claim
+
+-- the two points of a seam, from the outcome of the call: what the export answers, leaves and promises
+module _ (net : List ℤ) (w h k l p q p2 q2 : ℕ) (out scratch out2 scratch2 points out′ scratch′ out2′ scratch2′ : List ℤ) where
+  abbrev seamNumber : ℕ
+  seamNumber = seamExport net w h k l p q p2 q2 out scratch out2 scratch2 points
+
+  abbrev seamValues : List ℤ
+  seamValues = seamPoints net w h k l p q p2 q2
+
+  abbrev SeamExported : ℕ → List ℤ → Type 0
+  SeamExported n after =
+      (n ≡ seamNumber)
+      × (SeamLeft n net w h k l out scratch out2 scratch2 out′ scratch′ out2′ scratch2′
+      × ((after ≡ outputAfter n seamValues points) × (n ≡ 0 → SeamHolds net w h k l p q p2 q2 n after)))
+
+  abbrev pub Outcome : ℕ × List ℤ → Type 0
+  Outcome o =
+      (o ≡ (seamNumber, cond (accepted seamNumber) seamValues []))
+      × (SeamLeft (o .0) net w h k l out scratch out2 scratch2 out′ scratch′ out2′ scratch2′
+      × (o .0 ≡ 0 → SeamHolds net w h k l p q p2 q2 (o .0) (o .1)))
+
+  -- there is room for the points where nothing is refused
+  pub seam-room : {six : List ℤ} → Outcome (0, six) → 6 ≤ length points
+  seam-room {six} e =
+      ltb-false (length points) 6
+      (joinable net w h k l p q p2 q2 (ltb (length points) 6) out scratch out2 scratch2
+      (answered seamNumber seamValues (e .0) .0) .fits)
+
+  pub seam-accepted : {six after : List ℤ} → Outcome (0, six) → after ≡ over six points → SeamExported 0 after
+  unfolding over
+  seam-accepted {six} {after} e stored =
+      let known = answered seamNumber seamValues (e .0) in
+      let left : after ≡ over seamValues points = stored ∙ (λ t. over (known .1 t) points) in (
+        sym (known .0),
+        (
+          e .1 .0,
+          (
+            left,
+            λ z. subst (SeamHolds net w h k l p q p2 q2 0) (sym left)
+                (subst (SeamHolds net w h k l p q p2 q2 0) (known .1) (e .1 .1 refl)),
+          ),
+        ),
+      )
+
+  pub seam-refused : {n : ℕ} → Outcome (n, []) → SeamExported n points
+  seam-refused {n} e =
+      let refused = point-refused seamNumber seamValues points (lit< tt) (e .0) in
+      let there = not-accepted seamNumber seamValues (lit< tt) (e .0) in
+      (refused .0, (e .1 .0, (refused .1, λ z. absurd (there (sym (refused .0) ∙ z)))))
 
 -- an output by the number that was answered
 pub output-by : (result out : List ℤ) {n r : ℕ} {l : List ℤ} → n ≡ r → l ≡ outputAfter r result out →

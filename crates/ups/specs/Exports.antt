@@ -20,6 +20,7 @@ use Rattle.door.specs.Door.{onDoor}
 use Rattle.outlined_points.specs.Refusals.{outlinedPointRefusal}
 use Rattle.outlined_refined_points.specs.Answers.{outlinedRefusalAt}
 use Rattle.refined_points.specs.Answers.{refusalAt}
+use Rattle.seam.specs.Answers.{seamRefusalAt}
 use Rattle.words.specs.NetFile.{wordBytes, firstWord, pointBytes, netFile, fileSize, fileWidth, fileHeight}
 use Rattle.writer.specs.Refusals.{writeRefusal, noRoom}
 use Rattle.reader.specs.Refusals.{readRefusal, shortFor}
@@ -46,7 +47,12 @@ pointExport net w h p q room = pointRefusalWith net w h p q (ltb room 3)
 abbrev pub refinedPointExport : List ℤ → ℕ → ℕ → ℕ → ℕ → ℕ → List ℤ → List ℤ → List ℤ → ℕ
 refinedPointExport net w h k p q out scratch point = refusalAt net w h k p q (ltb (length point) 3) out scratch
 
--- document 02, a: both with an outline
+-- of the two points of a seam, 5 is of either output, of either scratch or of the points' six numbers
+abbrev pub seamExport : List ℤ → ℕ → ℕ → ℕ → ℕ → ℕ → ℕ → ℕ → ℕ → List ℤ → List ℤ → List ℤ → List ℤ → List ℤ → ℕ
+seamExport net w h k l p q p2 q2 out scratch out2 scratch2 points =
+    seamRefusalAt net w h k l p q p2 q2 (ltb (length points) 6) out scratch out2 scratch2
+
+-- document 02, a: points, also of a refined net, with an outline
 abbrev pub outlinedPointExport : List ℤ → ℕ → ℕ → List ℕ → ℕ → ℕ → ℕ → ℕ
 outlinedPointExport net w h outline p q room = outlinedPointRefusal net w h outline p q (ltb room 3)
 
@@ -115,6 +121,21 @@ refined-point-room :
     × (refinedPointExport (tooLarge (numbers 2 2 - 1)) 2 2 0 0 0 zeros [] (pos 7 ∷ pos 7 ∷ pos 7 ∷ []) ≡ 3)
 unfolding netBeyond
 refined-point-room = (refl, refl, refl, refl, refl)
+
+-- the two points of a seam, after one step and after none, with room for five numbers and for six; with columns and rows
+-- exchanged; with the depths exchanged; and with the outputs exchanged
+abbrev seamOf : ℕ → ℕ → ℕ → ℕ → ℕ → ℕ → ℕ → ℕ
+seamOf k l p q p2 q2 room =
+    seamExport net32 3 2 k l p q p2 q2 (replicate 135 (pos 7)) [] (replicate 54 (pos 8)) [] (replicate room (pos 9))
+
+seam-points :
+    (seamOf 1 0 3000 600 1500 300 5 ≡ 5)
+    × (seamOf 1 0 3000 600 1500 300 6 ≡ 0)
+    × (seamOf 1 0 600 3000 300 1500 6 ≡ 6)
+    × (seamOf 0 1 3000 600 1500 300 6 ≡ 6)
+    × (seamOf 0 1 1500 300 3000 600 6 ≡ 5)
+unfolding netBeyond
+seam-points = (refl, refl, refl, refl, refl)
 
 -- of that net with the up triangle of cell (1, 0) alone: a place in it, with room for two numbers and for three; the
 -- place with its numbers exchanged; the sides exchanged; and a place off the door

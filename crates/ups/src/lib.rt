@@ -25,6 +25,9 @@ use reader::read_with;
 use refine::RefineAnswer;
 use refine::refine;
 use refined_points::refined_point_with;
+use seam::SeamAnswer;
+use seam::seam_points_with;
+use seam::store_points;
 use split::SplitAnswer;
 use split::split;
 use surface::PointAnswer;
@@ -48,6 +51,8 @@ ghost use Rattle.steps.specs.RefinedNet.{refinedNet};
 ghost use Rattle.refine.specs.Answers.{refusalOf, freeScratch};
 ghost use Rattle.refined_points.specs.Answers.{refinedSurfacePoint};
 ghost use Rattle.refined_points.specs.DemandThree.{Claimed};
+ghost use Rattle.seam.specs.Answers.{seamPoints, SeamHolds};
+ghost use Rattle.seam.specs.Contract.{SeamLeft};
 ghost use Rattle.words.specs.NetFile.{netFile, fileNumbers};
 ghost use Rattle.details.specs.Refusals.{cleanRefusal};
 ghost use Rattle.details.specs.Cleaning.{cleanedDetails};
@@ -60,7 +65,7 @@ ghost use Rattle.outline.specs.Refusals.{checkFaults, checkRefusal, freeSearch}
 ghost use Rattle.outlined_points.specs.Refusals.{triangleBy, outlinedBezierRefusal};
 ghost use Rattle.outlined_refine.specs.Answers.{faultsOf, outlinedRefusalOf, OutlinedLeft};
 ghost use Rattle.outlined_refined_points.specs.Answers.{pointFaultsOf};
-ghost use Rattle.ups.specs.Exports.{exportedTriangle, bezierExport, pointExport, refinedPointExport, writeExport, writtenCount, readExport, readSize, outlinedPointExport, outlinedRefinedExport};
+ghost use Rattle.ups.specs.Exports.{exportedTriangle, bezierExport, pointExport, refinedPointExport, seamExport, writeExport, writtenCount, readExport, readSize, outlinedPointExport, outlinedRefinedExport};
 
 // 1, 6, 2, or 0: the companion of the vertex part.
 #[no_mangle]
@@ -245,6 +250,60 @@ pub extern "C" fn ups_refined_point(
             0
         }
         PointAnswer::Refused(n) => n,
+    }
+}
+
+// The net refined by k steps into `out` and by l steps into `out2`, and into `points` the surface point of the first at
+// place (p, q) and that of the second at place (p2, q2), which are the same place of the net. Its last promise is the
+// seam's.
+#[no_mangle]
+pub extern "C" fn ups_seam_points(
+    net: &[i32],
+    w: usize,
+    h: usize,
+    k: usize,
+    l: usize,
+    p: usize,
+    q: usize,
+    p2: usize,
+    q2: usize,
+    out: &mut [i32],
+    scratch: &mut [i32],
+    out2: &mut [i32],
+    scratch2: &mut [i32],
+    points: &mut [i32],
+) -> u32
+    ensures { λ r. ⌜ r ≡ seamExport (now (net .entry)) w h k l p q p2 q2 (now (out .entry)) (now (scratch .entry))
+        (now (out2 .entry)) (now (scratch2 .entry)) (now (points .entry)) ⌝ }
+    ensures { λ r. ⌜ SeamLeft r (now (net .entry)) w h k l (now (out .entry)) (now (scratch .entry))
+        (now (out2 .entry)) (now (scratch2 .entry)) (now (out .exit)) (now (scratch .exit)) (now (out2 .exit))
+        (now (scratch2 .exit)) ⌝ }
+    ensures { λ r. ⌜ now (points .exit)
+        ≡ outputAfter r (seamPoints (now (net .entry)) w h k l p q p2 q2) (now (points .entry)) ⌝ }
+    ensures { λ r. ⌜ (r ≡ 0 → SeamHolds (now (net .entry)) w h k l p q p2 q2 r (now (points .exit))) ⌝ }
+{
+    let answer = seam_points_with(
+        net,
+        w,
+        h,
+        k,
+        l,
+        p,
+        q,
+        p2,
+        q2,
+        points.len() < 6,
+        out,
+        scratch,
+        out2,
+        scratch2,
+    );
+    match answer {
+        SeamAnswer::At(a, b) => {
+            store_points(a, b, points);
+            0
+        }
+        SeamAnswer::Refused(n) => n,
     }
 }
 

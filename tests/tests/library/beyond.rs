@@ -9,6 +9,7 @@ use ups_tests::oracle::LIMIT;
 use ups_tests::pages::Side;
 use ups_tests::random::Random;
 use ups_tests::record::{self, GIVEN_RECORD, RECORD};
+use ups_tests::seam::one_place;
 
 /// All calls on the last vertex and in the last cell, and some others.
 fn asks(random: &mut Random, (w, h): (usize, usize)) -> Vec<Ask> {
@@ -17,6 +18,7 @@ fn asks(random: &mut Random, (w, h): (usize, usize)) -> Vec<Ask> {
         Ask::Vertex { i: w - 1, j: h - 1 },
         Ask::Write { written_len: 1 },
         Ask::refined_point((w, h), 1, (1024, 2048 * (h - 1))),
+        Ask::seam_points((w, h), one_place([0, 1], (512, 1024 * (h - 1)))),
     ];
     asks.extend([0, 1, 2].map(|k| Ask::refine((w, h), k)));
     for down in [0, 1] {

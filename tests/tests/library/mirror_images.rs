@@ -416,6 +416,7 @@ fn random_faults() {
         calls::write,
         calls::refine,
         calls::refined_point,
+        calls::seam_points,
         calls::split,
         calls::merge,
         calls::clean,

@@ -9,6 +9,7 @@ use ups_tests::netfile;
 use ups_tests::oracle::{self, Faults, BEZIER_NUMBERS, POINT_NUMBERS};
 use ups_tests::record;
 use ups_tests::refinement;
+use ups_tests::seam::{self, one_place, Seam, SEAM_NUMBERS};
 
 type Size = (usize, usize);
 
@@ -147,6 +148,37 @@ fn refined_point() {
             let faults =
                 refinement::refined_point_faults(net, size, k, (9, 9), to_len, by_len, last_len);
             (answer, faults)
+        });
+    }
+}
+
+/// Without a step on one side, and with one step or two on the other.
+#[test]
+fn seam_points() {
+    for steps in [[0, 0], [1, 0], [0, 2]] {
+        let places = one_place(steps, (9, 9));
+        let [(k, p, q), (l, p2, q2)] = places.map(|at| (at.k, at.place.0, at.place.1));
+        check(SIZE, |(w, h), numbers, way: [Lend; 6]| {
+            let [mut a, mut b, mut c, mut d] = [[0; ROOM]; 4];
+            let mut points = [0; SEAM_NUMBERS];
+            let (net, len) = way[0].input(numbers);
+            let ((to, to_len), (by, by_len)) = (way[1].output(&mut a), way[2].output(&mut b));
+            let ((to2, to2_len), (by2, by2_len)) = (way[3].output(&mut c), way[4].output(&mut d));
+            let (both, both_len) = way[5].output(&mut points);
+            // SAFETY: slices, or some of length 0.
+            let answer = unsafe {
+                raw::ups_seam_points(
+                    net, len, w, h, k, l, p, q, p2, q2, to, to_len, by, by_len, to2, to2_len, by2,
+                    by2_len, both, both_len,
+                )
+            };
+            let seam = Seam {
+                places,
+                scratch_lens: [by_len, by2_len],
+                points_len: both_len,
+            };
+            let (net, outs) = (way[0].of(numbers), [to_len, to2_len]);
+            (answer, seam::seam_faults(net, (w, h), &seam, outs))
         });
     }
 }

@@ -27,9 +27,11 @@ fn base((size, ask): (Size, Ask)) -> Call {
 }
 
 /// Each call on a net of any size; those that refine with one step and with two as well, where
-/// they need a scratch.
+/// they need a scratch. The points of a seam have more faults, and are in `seam_order`.
 fn bases() -> Vec<(Size, Ask)> {
-    let mut bases: Vec<(Size, Ask)> = ASKS.map(|ask| (SIZE, ask)).to_vec();
+    let asks = ASKS.into_iter();
+    let asks = asks.filter(|ask| !matches!(ask, Ask::SeamPoints(_)));
+    let mut bases: Vec<(Size, Ask)> = asks.map(|ask| (SIZE, ask)).collect();
     for (size, k) in [(SIZE, 1), (WIDE, 2), (HIGH, 2)] {
         bases.push((size, Ask::refine(size, k)));
         bases.push((size, Ask::refined_point(size, k, (300, 200))));

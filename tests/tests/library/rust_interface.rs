@@ -14,6 +14,7 @@ use ups_tests::oracle::{self, LIMIT};
 use ups_tests::random::Random;
 use ups_tests::random_calls as calls;
 use ups_tests::record;
+use ups_tests::seam::{RefinedPlace, Seam};
 
 const MAX: usize = usize::MAX;
 /// Calls of each kind.
@@ -33,7 +34,7 @@ type Size = (usize, usize);
 /// may have numbers out of range where a call does not look; of a split, 4 has a test of its own.
 type Kind = (fn(&mut Random) -> Call, &'static [u32], &'static [u32]);
 
-const KINDS: [Kind; 15] = [
+const KINDS: [Kind; 16] = [
     (calls::vertex, &[0, 1, 2, 6], &[0, 1, 2, 3, 6]),
     (calls::bezier, &[0, 1, 2, 3, 5, 6], &[0, 1, 2, 3, 6]),
     (calls::surface, &[0, 1, 2, 3, 5, 6], &[0, 1, 2, 3, 6]),
@@ -42,6 +43,11 @@ const KINDS: [Kind; 15] = [
     (calls::refine, &[0, 1, 2, 3, 4, 5], &[0, 1, 2, 3, 4]),
     (
         calls::refined_point,
+        &[0, 1, 2, 3, 4, 5, 6],
+        &[0, 1, 2, 3, 4, 6],
+    ),
+    (
+        calls::seam_points,
         &[0, 1, 2, 3, 4, 5, 6],
         &[0, 1, 2, 3, 4, 6],
     ),
@@ -116,7 +122,7 @@ fn calls_of_nets() {
 }
 
 /// Every call with these arguments.
-fn wild_asks(a: usize, b: usize) -> [Ask; 11] {
+fn wild_asks(a: usize, b: usize) -> [Ask; 12] {
     [
         Ask::Vertex { i: a, j: b },
         Ask::Bezier {
@@ -138,6 +144,11 @@ fn wild_asks(a: usize, b: usize) -> [Ask; 11] {
             scratch_len: 0,
             point_len: 0,
         },
+        Ask::SeamPoints(Seam {
+            places: [(a, (b, 0)), (b, (a, 0))].map(|(k, place)| RefinedPlace { k, place }),
+            scratch_lens: [0; 2],
+            points_len: 0,
+        }),
         Ask::Split { details_len: 0 },
         Ask::Merge,
         Ask::FromPoints,
@@ -155,7 +166,7 @@ fn wild_arguments_to_functions_on_lent_slices() {
                 for net in [&[], &zeros[..]] {
                     let mut call = Call::new(net, (2, 2), ask);
                     (call.w, call.h) = (w, h);
-                    call.out_len = 0;
+                    (call.out_len, call.out2_len) = (0, 0);
                     call.details.clear();
                     assert_eq!(call.of_lent(), call.of_oracle(), "{call:?}");
                 }

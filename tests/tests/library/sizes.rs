@@ -5,7 +5,7 @@ use ups::{coarse_numbers, coarse_side, detail_numbers, file_bytes, file_numbers}
 use ups::{given_numbers, net_numbers};
 use ups::{lent, Refusal};
 use ups::{refined_numbers, refined_triangles, scratch_numbers, side_after, triangles};
-use ups::{BEZIER, DETAIL_RECORD, FILE_WORDS, GIVEN_RECORD, POINT, RECORD};
+use ups::{BEZIER, DETAIL_RECORD, FILE_WORDS, GIVEN_RECORD, POINT, RECORD, SEAM_POINTS};
 use ups::{EDGE, GREATEST_DEPTH, GREATEST_SIDE, LEAST_SIDE};
 use ups_tests::hermite;
 use ups_tests::multiresolution;
@@ -14,6 +14,7 @@ use ups_tests::oracle::{Faults, BEZIER_NUMBERS, POINT_NUMBERS};
 use ups_tests::outlines::{self, Door};
 use ups_tests::record;
 use ups_tests::refinement;
+use ups_tests::seam::SEAM_NUMBERS;
 
 type Size = (usize, usize);
 
@@ -56,6 +57,7 @@ fn records() {
     assert_eq!(DETAIL_RECORD, record::DETAIL_RECORD);
     assert_eq!(GIVEN_RECORD, record::GIVEN_RECORD);
     assert_eq!((POINT, BEZIER), (POINT_NUMBERS, BEZIER_NUMBERS));
+    assert_eq!(SEAM_POINTS, SEAM_NUMBERS);
     assert_eq!(FILE_WORDS, 3 * POINT_WORDS);
     assert_eq!((EDGE, LEAST_SIDE), (1024, 2));
     assert_eq!((GREATEST_SIDE, GREATEST_DEPTH), (1025, 6));
@@ -277,6 +279,26 @@ fn room_of_refined_nets() {
             check_room(lens, [SHORT, ROOM, ROOM, ROOM], |[net, out, by, point]| {
                 let (out, by, point) = (&mut zeros(out), &mut zeros(by), &mut zeros(point));
                 lent::refined_point(&zeros(net), w, h, k, 0, 0, out, by, point)
+            });
+        }
+    }
+}
+
+/// As many steps on both sides together as the sides take.
+#[test]
+fn room_of_seams() {
+    for ((w, h), most) in LENT {
+        for k in 0..=most {
+            let l = most - k;
+            let [(out, by), (out2, by2)] =
+                [k, l].map(|k| (refined_numbers(w, h, k), scratch_numbers(w, h, k)));
+            let lens = [net_numbers(w, h), out, by, out2, by2, SEAM_POINTS];
+            let refusals = [SHORT, ROOM, ROOM, ROOM, ROOM, ROOM];
+            check_room(lens, refusals, |[net, out, by, out2, by2, to]| {
+                let (net, to) = (&zeros(net), &mut zeros(to));
+                let (out, by) = (&mut zeros(out), &mut zeros(by));
+                let (out2, by2) = (&mut zeros(out2), &mut zeros(by2));
+                lent::seam_points(net, w, h, k, l, 0, 0, 0, 0, out, by, out2, by2, to)
             });
         }
     }

@@ -10,8 +10,8 @@ use lib.ListN.{length}
 use borrow.Author.Needs.{needs}
 use Rattle.exact.specs.Filling.{over, runs}
 use Rattle.exact.proofs.FillingLaws.{over-none}
+use Rattle.steps.proofs.Sides.{side-cells}
 use Rattle.fine_outline.specs.Rows.{rowRun, RowReady}
-use Rattle.fine_outline.proofs.Parents.{side-cells}
 use Rattle.fine_outline.proofs.RowLaws.{by-rows, row-ready, rows-more}
 use Rattle.fine_outline.proofs.rows.write_fine_outline.Statement.{statement}
 use Rattle.fine_outline.proofs.rows.write_fine_outline.Tie as tie

@@ -15,8 +15,8 @@ use Rattle.door.specs.Door.{onDoor}
 use Rattle.steps.specs.Steps.{Depth}
 use Rattle.bounds.specs.DemandThree.{fineEdge}
 use Rattle.refine.proofs.Depths.{good-depth}
+use Rattle.refined_points.proofs.EdgeCounts.{edge-bounds, same-grid}
 use Rattle.outlined_refined_points.specs.Refusals.{offDoor}
-use Rattle.outlined_refined_points.proofs.EdgeCounts.{edge-bounds, same-grid}
 use Rattle.outlined_refined_points.proofs.faults.door_refusal.Statement.{statement}
 use Rattle.outlined_refined_points.proofs.faults.door_refusal.Tie as tie
 

@@ -8,8 +8,8 @@ use lib.Dec.{ltb}
 use Rattle.places.specs.Refusals.{noPlace}
 use Rattle.subdivision.specs.Refinement.{sideAfter}
 use Rattle.bounds.specs.DemandThree.{fineEdge}
+use Rattle.steps.proofs.Sides.{some-cells, side-cells}
 use Rattle.refined_points.specs.Refusals.{offGrid}
-use Rattle.fine_outline.proofs.Parents.{side-cells, some-cells}
 
 pub edge-bounds : (k : ℕ) → k ≤ 6 → (0 < fineEdge k) × (fineEdge k ≤ 65536)
 edge-bounds k few =
@@ -17,7 +17,7 @@ edge-bounds k few =
     let some : 0 < 2 ^ k = some-cells k in
     (omega (arith, some), omega (arith, most))
 
-side-same : (k n : ℕ) → 1 ≤ n → 1024 * (sideAfter k n - 1) ≡ fineEdge k * (n - 1)
+pub side-same : (k n : ℕ) → 1 ≤ n → 1024 * (sideAfter k n - 1) ≡ fineEdge k * (n - 1)
 side-same k n some = omega (arith, side-cells k n some, mul-assoc 1024 (2 ^ k) (n - 1))
 
 pub same-grid : (w h k p q : ℕ) → 1 ≤ w → 1 ≤ h → offGrid w h k p q ≡ noPlace (fineEdge k) w h p q

@@ -1,0 +1,2 @@
+-- The seam of a door with an outline.
+pub mod DoorSeam

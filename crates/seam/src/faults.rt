@@ -1,0 +1,91 @@
+// The refusals of the two points of a seam. Callers in this file establish the preconditions.
+use refine::net_refusal;
+use refine::size_refusal;
+use refine::too_short;
+use refined_points::off_grid;
+use steps::side_after;
+ghost use mathlib.Core.Path.{_≡_};
+ghost use mathlib.Core.Bool.{false, _||_};
+ghost use Prim.Native.Nat.{_≤_};
+ghost use Rattle.net.specs.Refusals.{firstFault, badSize};
+ghost use Rattle.refine.specs.Refusals.{tooDeep, tooShort};
+ghost use Rattle.seam.specs.Refusals.{otherPlace, depthFaults, noSeamPlace, seamRefusal};
+
+// The first of 1 and 4 of either depth, or 0.
+fn depth_refusal(w: usize, h: usize, k: usize, l: usize) -> u32
+    ensures { λ r. ⌜ r ≡ firstFault (depthFaults w h k l) ⌝ }
+{
+    let refusal = size_refusal(w, h, k);
+    if refusal != 0 {
+        return refusal;
+    }
+    size_refusal(w, h, l)
+}
+
+// Whether place (p, q) after k steps and place (p2, q2) after l steps are not the same place of the net. The places are
+// of their grids, so no product overflows.
+fn other_place(k: usize, l: usize, p: usize, q: usize, p2: usize, q2: usize) -> bool
+    requires { ⌜ (k ≤ 6) × (l ≤ 6) × (p ≤ 1048576) × (q ≤ 1048576) × (p2 ≤ 1048576) × (q2 ≤ 1048576) ⌝ }
+    ensures { λ r. ⌜ r ≡ otherPlace k l p q p2 q2 ⌝ }
+{
+    let s = side_after(2, k) - 1;
+    let t = side_after(2, l) - 1;
+    if p * t != p2 * s {
+        return true;
+    }
+    q * t != q2 * s
+}
+
+// Whether 6 refuses the places: either is off its grid, or they are not the same place.
+fn no_seam_place(
+    w: usize,
+    h: usize,
+    k: usize,
+    l: usize,
+    p: usize,
+    q: usize,
+    p2: usize,
+    q2: usize,
+) -> bool
+    requires { ⌜ (badSize w h ≡ false) × (tooDeep w h k ≡ false) × (tooDeep w h l ≡ false) ⌝ }
+    ensures { λ r. ⌜ r ≡ noSeamPlace w h k l p q p2 q2 ⌝ }
+{
+    if off_grid(w, h, k, p, q) {
+        return true;
+    }
+    if off_grid(w, h, l, p2, q2) {
+        return true;
+    }
+    other_place(k, l, p, q, p2, q2)
+}
+
+// The first of 1, 4, 6, 2, 5 and 3, or 0; `short` is whether another output is too short.
+pub fn seam_refusal(
+    net: &[i32],
+    w: usize,
+    h: usize,
+    k: usize,
+    l: usize,
+    p: usize,
+    q: usize,
+    p2: usize,
+    q2: usize,
+    short: bool,
+    room: usize,
+    scratch: usize,
+    room2: usize,
+    scratch2: usize,
+) -> u32
+    ensures { λ r. ⌜ r ≡ seamRefusal (now (net .entry)) w h k l p q p2 q2
+        ((short || tooShort w h k room scratch) || tooShort w h l room2 scratch2) ⌝ }
+{
+    let refusal = depth_refusal(w, h, k, l);
+    if refusal != 0 {
+        return refusal;
+    }
+    if no_seam_place(w, h, k, l, p, q, p2, q2) {
+        return 6;
+    }
+    let first = too_short(w, h, k, room, scratch);
+    net_refusal(net, w, h, l, short | first, room2, scratch2)
+}
