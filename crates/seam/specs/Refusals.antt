@@ -21,10 +21,13 @@ depthFaults w h k l = (badSize w h, 1) ∷ (tooDeep w h k || tooDeep w h l, 4) �
 abbrev pub noSeamPlace : ℕ → ℕ → ℕ → ℕ → ℕ → ℕ → ℕ → ℕ → Bool
 noSeamPlace w h k l p q p2 q2 = offGrid w h k p q || (offGrid w h l p2 q2 || otherPlace k l p q p2 q2)
 
--- all of them, where `short` is whether something lent is too short
+-- the rows that look at sizes and places alone, and all of them, where `short` is whether something lent is too short
+abbrev pub placesFaults : ℕ → ℕ → ℕ → ℕ → ℕ → ℕ → ℕ → ℕ → List Fault
+placesFaults w h k l p q p2 q2 = depthFaults w h k l ++ (noSeamPlace w h k l p q p2 q2, 6) ∷ []
+
 abbrev pub seamRefusal : List ℤ → ℕ → ℕ → ℕ → ℕ → ℕ → ℕ → ℕ → ℕ → Bool → ℕ
 seamRefusal net w h k l p q p2 q2 short =
-    firstFault (depthFaults w h k l ++ (noSeamPlace w h k l p q p2 q2, 6) ∷ netFaults net w h short)
+    firstFault (placesFaults w h k l p q p2 q2 ++ netFaults net w h short)
 
 -- worked cases: place (6, 10) after one step and (24, 40) after three, and the numbers of one of them changed or the
 -- depths exchanged

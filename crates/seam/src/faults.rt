@@ -1,15 +1,12 @@
-// The refusals of the two points of a seam. Callers in this file establish the preconditions.
-use refine::net_refusal;
+// The refusals of the two points of a seam by depths and places. Callers in this file establish the preconditions.
 use refine::size_refusal;
-use refine::too_short;
 use refined_points::off_grid;
-use steps::side_after;
 ghost use mathlib.Core.Path.{_≡_};
-ghost use mathlib.Core.Bool.{false, _||_};
+ghost use mathlib.Core.Bool.{false};
 ghost use Prim.Native.Nat.{_≤_};
 ghost use Rattle.net.specs.Refusals.{firstFault, badSize};
-ghost use Rattle.refine.specs.Refusals.{tooDeep, tooShort};
-ghost use Rattle.seam.specs.Refusals.{otherPlace, depthFaults, noSeamPlace, seamRefusal};
+ghost use Rattle.refine.specs.Refusals.{tooDeep};
+ghost use Rattle.seam.specs.Refusals.{otherPlace, depthFaults, noSeamPlace, placesFaults};
 
 // The first of 1 and 4 of either depth, or 0.
 fn depth_refusal(w: usize, h: usize, k: usize, l: usize) -> u32
@@ -28,12 +25,10 @@ fn other_place(k: usize, l: usize, p: usize, q: usize, p2: usize, q2: usize) -> 
     requires { ⌜ (k ≤ 6) × (l ≤ 6) × (p ≤ 1048576) × (q ≤ 1048576) × (p2 ≤ 1048576) × (q2 ≤ 1048576) ⌝ }
     ensures { λ r. ⌜ r ≡ otherPlace k l p q p2 q2 ⌝ }
 {
-    let s = side_after(2, k) - 1;
-    let t = side_after(2, l) - 1;
-    if p * t != p2 * s {
+    if p << l != p2 << k {
         return true;
     }
-    q * t != q2 * s
+    q << l != q2 << k
 }
 
 // Whether 6 refuses the places: either is off its grid, or they are not the same place.
@@ -59,9 +54,8 @@ fn no_seam_place(
     other_place(k, l, p, q, p2, q2)
 }
 
-// The first of 1, 4, 6, 2, 5 and 3, or 0; `short` is whether another output is too short.
-pub fn seam_refusal(
-    net: &[i32],
+// The first of 1, 4 and 6, or 0.
+pub fn places_refusal(
     w: usize,
     h: usize,
     k: usize,
@@ -70,14 +64,8 @@ pub fn seam_refusal(
     q: usize,
     p2: usize,
     q2: usize,
-    short: bool,
-    room: usize,
-    scratch: usize,
-    room2: usize,
-    scratch2: usize,
 ) -> u32
-    ensures { λ r. ⌜ r ≡ seamRefusal (now (net .entry)) w h k l p q p2 q2
-        ((short || tooShort w h k room scratch) || tooShort w h l room2 scratch2) ⌝ }
+    ensures { λ r. ⌜ r ≡ firstFault (placesFaults w h k l p q p2 q2) ⌝ }
 {
     let refusal = depth_refusal(w, h, k, l);
     if refusal != 0 {
@@ -86,6 +74,5 @@ pub fn seam_refusal(
     if no_seam_place(w, h, k, l, p, q, p2, q2) {
         return 6;
     }
-    let first = too_short(w, h, k, room, scratch);
-    net_refusal(net, w, h, l, short | first, room2, scratch2)
+    0
 }

@@ -1,7 +1,9 @@
 // The two points of a seam: the net refined to two depths, and the surface points of both at the same place.
 use crate::answers::SeamAnswer;
-use crate::faults::seam_refusal;
+use crate::faults::places_refusal;
+use refine::too_short;
 use refined_points::refined_point;
+use refined_points::refined_point_with;
 use surface::PointAnswer;
 ghost use mathlib.Core.Path.{_≡_};
 ghost use mathlib.Core.Bool.{false};
@@ -22,7 +24,7 @@ fn join(first: PointAnswer, second: PointAnswer) -> SeamAnswer
 }
 
 // The same as `seam_points`, for the crates above: `short` is whether another output that they were lent is too short,
-// which is 5 too.
+// which is 5 too. The second point, with what the first lacks of room, finds 2, 5 and 3 before anything is written.
 pub fn seam_points_with(
     net: &[i32],
     w: usize,
@@ -47,28 +49,19 @@ pub fn seam_points_with(
     ensures { λ r. ⌜ (seamOutcome r .0 ≡ 0
         → SeamHolds (now (net .entry)) w h k l p q p2 q2 (seamOutcome r .0) (seamOutcome r .1)) ⌝ }
 {
-    let refusal = seam_refusal(
-        net,
-        w,
-        h,
-        k,
-        l,
-        p,
-        q,
-        p2,
-        q2,
-        short,
-        out.len(),
-        scratch.len(),
-        out2.len(),
-        scratch2.len(),
-    );
+    let refusal = places_refusal(w, h, k, l, p, q, p2, q2);
     if refusal != 0 {
         return SeamAnswer::Refused(refusal);
     }
-    let first = refined_point(net, w, h, k, p, q, out, scratch);
-    let second = refined_point(net, w, h, l, p2, q2, out2, scratch2);
-    join(first, second)
+    let first_short = too_short(w, h, k, out.len(), scratch.len());
+    let second = refined_point_with(net, w, h, l, p2, q2, short | first_short, out2, scratch2);
+    match second {
+        PointAnswer::At(_) => {
+            let first = refined_point(net, w, h, k, p, q, out, scratch);
+            join(first, second)
+        }
+        PointAnswer::Refused(n) => SeamAnswer::Refused(n),
+    }
 }
 
 // The net refined by k steps over the front of `out` and by l steps over the front of `out2`, and the surface points of

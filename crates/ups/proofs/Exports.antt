@@ -29,7 +29,7 @@ use Rattle.refine.proofs.CallLaws.{Left}
 use Rattle.refined_points.specs.DemandThree.{Claimed}
 use Rattle.seam.specs.Answers.{seamPoints, SeamHolds}
 use Rattle.seam.specs.Contract.{SeamLeft}
-use Rattle.seam.proofs.CallLaws.{joinable}
+use Rattle.seam.proofs.CallLaws.{Ensured, rooms}
 use Rattle.outlined_refine.specs.Answers.{OutlinedLeft}
 use Rattle.ups.specs.Exports.{bezierExport, pointExport, seamExport, outlinedPointExport}
 
@@ -178,18 +178,17 @@ module _ (net : List ℤ) (w h k l p q p2 q2 : ℕ) (out scratch out2 scratch2 p
       × (SeamLeft n net w h k l out scratch out2 scratch2 out′ scratch′ out2′ scratch2′
       × ((after ≡ outputAfter n seamValues points) × (n ≡ 0 → SeamHolds net w h k l p q p2 q2 n after)))
 
+  -- what the call ensures, where room for fewer than six numbers is another output that is too short
   abbrev pub Outcome : ℕ × List ℤ → Type 0
-  Outcome o =
-      (o ≡ (seamNumber, cond (accepted seamNumber) seamValues []))
-      × (SeamLeft (o .0) net w h k l out scratch out2 scratch2 out′ scratch′ out2′ scratch2′
-      × (o .0 ≡ 0 → SeamHolds net w h k l p q p2 q2 (o .0) (o .1)))
+  Outcome =
+      Ensured net w h k l p q p2 q2 (ltb (length points) 6) out scratch out2 scratch2 out′ scratch′ out2′ scratch2′
 
   -- there is room for the points where nothing is refused
   pub seam-room : {six : List ℤ} → Outcome (0, six) → 6 ≤ length points
   seam-room {six} e =
       ltb-false (length points) 6
-      (joinable net w h k l p q p2 q2 (ltb (length points) 6) out scratch out2 scratch2
-      (answered seamNumber seamValues (e .0) .0) .fits)
+      (rooms net w h k l p q p2 q2 (ltb (length points) 6) out scratch out2 scratch2
+      (answered seamNumber seamValues (e .0) .0) .0)
 
   pub seam-accepted : {six after : List ℤ} → Outcome (0, six) → after ≡ over six points → SeamExported 0 after
   unfolding over
