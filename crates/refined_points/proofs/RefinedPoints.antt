@@ -52,6 +52,13 @@ point-accepted net w h k p q short room scratchLength e =
       r .0,
     )
 
+-- a coordinate of a point
+three-numbers : (f : ℕ → ℤ) (x : ℕ) → x < 3 → f x ≡ number (f 0 ∷ f 1 ∷ f 2 ∷ []) x
+three-numbers f zero c = refl
+three-numbers f (suc zero) c = refl
+three-numbers f (suc (suc zero)) c = refl
+three-numbers f (suc (suc (suc x))) c = absurd (omega (arith, c))
+
 -- ---- what refining leaves in the output is an accepted net
 
 module _ (net : List ℤ) (w h k : ℕ) (out : List ℤ) {scratchLength : ℕ} (taken : Refinable net w h k (length out) scratchLength) where
@@ -126,12 +133,6 @@ module _ (net : List ℤ) (w h k : ℕ) (out : List ℤ) {scratchLength : ℕ} (
               λ x c t o l. subst (λ (z : ℤ). WithinControls (field net w x) t z) (each x c)
               (demand-three net w h (taken .given) k p q x c place .1 t o l);
         }
-      where
-        three-numbers : (f : ℕ → ℤ) (x : ℕ) → x < 3 → f x ≡ number (f 0 ∷ f 1 ∷ f 2 ∷ []) x
-        three-numbers f zero c = refl
-        three-numbers f (suc zero) c = refl
-        three-numbers f (suc (suc zero)) c = refl
-        three-numbers f (suc (suc (suc x))) c = absurd (omega (arith, c))
 
 -- ---- demand 3
 
@@ -152,6 +153,14 @@ pub refined-answer : (net : List ℤ) (w h k : ℕ) (out scratch : List ℤ) →
 refined-answer net w h k out scratch e p q place =
     let t = refine-accepted net w h k (length out) (length scratch) e in
     (λ i. (0, sym (point-of-refined net w h k out t p q place) i)) ∙ answered-left net w h k out scratch e p q place
+
+pub refined-number : (net : List ℤ) (w h k : ℕ) (out scratch : List ℤ) → refusalOf net w h k out scratch ≡ 0 →
+    (p q : ℕ) → OnGrid 1024 (sideAfter k w) (sideAfter k h) p q → (x : ℕ) → x < 3 →
+    refinedCoordinate (field net w x) w h k p q
+    ≡ number (pointAnswer (refineOutput net w h k out scratch) (sideAfter k w) (sideAfter k h) p q .1) x
+refined-number net w h k out scratch e p q place x c =
+    three-numbers (λ y. refinedCoordinate (field net w y) w h k p q) x c
+    ∙ (λ i. number (answered-left net w h k out scratch e p q place i .1) x)
 
 pub refined-points : RefinedPoints
 refined-points net w h k out scratch e p q place =

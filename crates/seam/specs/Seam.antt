@@ -34,6 +34,6 @@ Seam =
     (pointAnswer (refineOutput net w h l out2 scratch2) (sideAfter l w) (sideAfter l h) p2 q2)
 
 -- worked case: not claimed are points that differ by 3 in y after one step and after two, or by 1 after one step each
-apart : (net : List ℤ) → (SeamClaimed net 2 2 1 2 6 10 12 20 (0, pos 3 ∷ pos 5 ∷ pos 7 ∷ []) (0, pos 3 ∷ pos 8 ∷ pos 7 ∷ []) → ⊥)
+too-far : (net : List ℤ) → (SeamClaimed net 2 2 1 2 6 10 12 20 (0, pos 3 ∷ pos 5 ∷ pos 7 ∷ []) (0, pos 3 ∷ pos 8 ∷ pos 7 ∷ []) → ⊥)
     × (SeamClaimed net 2 2 1 1 6 10 6 10 (0, pos 3 ∷ pos 5 ∷ pos 7 ∷ []) (0, pos 3 ∷ pos 6 ∷ pos 7 ∷ []) → ⊥)
-apart net = ((λ c. omega (arith, c .distance 1 (lit< tt))), (λ c. omega (arith, ap (λ (o : ℕ × List ℤ). natAbs (number (o .1) 1)) (c .equal refl))))
+too-far net = ((λ c. omega (arith, c .distance 1 (lit< tt))), (λ c. omega (arith, ap (λ (o : ℕ × List ℤ). natAbs (number (o .1) 1)) (c .equal refl))))
