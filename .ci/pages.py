@@ -8,8 +8,8 @@ the examples of `COPIED`, each under its heading, as they are in their files.
 Of docs/PROMISES.md, whose label lines ("- Proof: ...", continued on indented lines) have citations with semicolons
 between them, names, "in" and a path, or a path alone:
 1. every name on a label line is declared in the very file that it is said to be in;
-2. every statement of crates/*/specs/Promises.antt and DemandThree.antt, which is an abbreviation whose type is exactly
-   `Type 0`, and every `extern "C"` function of crates/ups/src/lib.rt is cited from there.
+2. every statement of crates/*/specs/Promises.antt, *DemandThree.antt and *Seam.antt, which is an abbreviation whose
+   type is exactly `Type 0`, and every `extern "C"` function of crates/ups/src/lib.rt is cited from there.
 Prints a line for each fault and exits with 1; or prints how much was checked.
 """
 import re
@@ -33,14 +33,15 @@ DECLARED = {
 # the files whose names have to be cited, and which names
 DUE = {
     "crates/*/specs/Promises.antt": r"^abbrev pub (\S+) : Type 0$",
-    "crates/*/specs/DemandThree.antt": r"^abbrev pub (\S+) : Type 0$",
+    "crates/*/specs/*DemandThree.antt": r"^abbrev pub (\S+) : Type 0$",
+    "crates/*/specs/*Seam.antt": r"^abbrev pub (\S+) : Type 0$",
     "crates/ups/src/lib.rt": r'^pub extern "C" fn (\w+)',
 }
 
 # the most lines of a file
 MOST = {
-    "README.md": 134,
-    "docs/REFERENCE.md": 262,
+    "README.md": 151,
+    "docs/REFERENCE.md": 274,
     "examples/door.c": 80,
     "examples/point.c": 10,
     "rust/examples/point.rs": 10,

@@ -1,8 +1,9 @@
 /* ups: uniform Powell-Sabin surfaces on a triangular grid. A net of control triangles is a spline surface. The library
- * gives its Bezier nets and surface points, refines it, both with an outline of the door and without, splits it into a
- * coarse net and details, cleans details and merges both again, makes the net through given points, and writes and
- * reads the net file. Its functions are proved to meet their contracts; the static inline ones of this header are
- * tested against them. The repository's docs/REFERENCE.md has the formulas and the net file. For C99 or later, and C++.
+ * gives its Bezier nets and surface points, refines it, both with an outline of the door and without, gives the points
+ * of two refinements at one place, splits it into a coarse net and details, cleans details and merges both again, makes
+ * the net through given points, and writes and reads the net file. Its functions are proved to meet their contracts;
+ * the static inline ones of this header are tested against them. The repository's docs/REFERENCE.md has the formulas
+ * and the net file. For C99 or later, and C++.
  *
  * Slices. A slice x is a pointer x, then its length x_len in elements. A slice of length 0 may have a null pointer. A
  * slice that is written overlaps no other slice of the same call; slices that are only read may overlap.

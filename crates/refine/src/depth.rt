@@ -47,8 +47,8 @@ fn shorter_than(room: usize, w: usize, h: usize, k: usize) -> bool
     room < STRIDE * (side_after(w, k) * side_after(h, k))
 }
 
-// Whether the output or the scratch is too short. For `outlined_refine` too, which has refused a size and a k by 1 and
-// 4 first.
+// Whether the output or the scratch is too short. For `outlined_refine` and `seam` too, which have refused a size and a
+// k by 1 and 4 first.
 pub fn too_short(w: usize, h: usize, k: usize, room: usize, scratch: usize) -> bool
     requires { ⌜ (badSize w h ≡ false) × (tooDeep w h k ≡ false) ⌝ }
     ensures { λ r. ⌜ r ≡ tooShort w h k room scratch ⌝ }

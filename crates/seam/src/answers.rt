@@ -1,5 +1,5 @@
-// What the call answers, and its two points in a lent output. `specs/Answers.antt` gives the number and the six values of
-// each case.
+// What the call answers, and its two points in a lent output. `specs/Answers.antt` gives the number and the six values
+// of each case.
 use net::store_point;
 use surface::Point;
 ghost use mathlib.Core.Path.{_≡_};

@@ -122,8 +122,8 @@ refined-point-room :
 unfolding netBeyond
 refined-point-room = (refl, refl, refl, refl, refl)
 
--- the two points of a seam, after one step and after none, with room for five numbers and for six; with columns and rows
--- exchanged; with the depths exchanged; and with the outputs exchanged
+-- the two points of a seam, after one step and after none, with room for five numbers and for six; with columns and
+-- rows exchanged; with the depths exchanged; and with the outputs exchanged
 abbrev seamOf : ℕ → ℕ → ℕ → ℕ → ℕ → ℕ → ℕ → ℕ
 seamOf k l p q p2 q2 room =
     seamExport net32 3 2 k l p q p2 q2 (replicate 135 (pos 7)) [] (replicate 54 (pos 8)) [] (replicate room (pos 9))

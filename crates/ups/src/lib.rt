@@ -1,7 +1,7 @@
-// The static library: the calls of document 01 and of document 02, a and c, for C and Rust, which include/ups.h and
-// rust/src/raw.rs declare. A slice is a pointer and then a length; 0 is accepted, another number refuses. As in Rust, a
-// slice that is lent to be written overlaps no other. Of mirror images (document 02, d) speaks
-// `crates/mirror/specs/Promises.antt`, by the definitions that these contracts cite.
+// The static library: the calls of document 01 and of document 02, a and c, and the two points of a seam, for C and
+// Rust, which include/ups.h and rust/src/raw.rs declare. A slice is a pointer and then a length; 0 is accepted, another
+// number refuses. As in Rust, a slice that is lent to be written overlaps no other. Of mirror images (document 02, d)
+// speaks `crates/mirror/specs/Promises.antt`, by the definitions that these contracts cite.
 use bezier::BezierAnswer;
 use bezier::bezier_net;
 use details::CleanAnswer;
