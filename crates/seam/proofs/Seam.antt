@@ -18,7 +18,6 @@ use Rattle.spline.specs.Shares.{apart}
 use Rattle.subdivision.specs.Refinement.{sideAfter}
 use Rattle.bounds.specs.DemandThree.{fineEdge, refinedCoordinate}
 use Rattle.bounds.proofs.SamePlaces.{near-both, near-more}
-use Rattle.steps.specs.Steps.{Depth}
 use Rattle.steps.proofs.Sides.{some-cells}
 use Rattle.refine.proofs.Refinable.{refine-accepted}
 use Rattle.refined_points.specs.Answers.{refinedSurfacePoint}

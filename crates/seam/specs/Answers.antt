@@ -47,8 +47,8 @@ abbrev pub SeamHolds : List ℤ → ℕ → ℕ → ℕ → ℕ → ℕ → ℕ 
 SeamHolds net w h k l p q p2 q2 n six = SeamClaimed net w h k l p q p2 q2 (n, take 3 six) (n, take 3 (drop 3 six))
 
 -- worked cases: outcomes of answers; of the net of 2 by 3 whose numbers are the squares, the points after no step and
--- after one at the same place, which differ by 1 in y and z, and with the depths exchanged; each output too short by a
--- number, and another output that is too short
+-- after one at the same place, which differ by 1 in each coordinate, and with the depths exchanged; each output too
+-- short by a number, and another output that is too short
 outcomes :
     (seamOutcome (seam.At (record { x = pos 1; y = pos 2; z = negsuc 2 }) (record { x = pos 4; y = negsuc 4; z = pos 6 }))
     ≡ (0, pos 1 ∷ pos 2 ∷ negsuc 2 ∷ pos 4 ∷ negsuc 4 ∷ pos 6 ∷ []))
@@ -60,11 +60,11 @@ answerOf k l p q p2 q2 other room room2 =
     seamAnswer (squares 54) 2 3 k l p q p2 q2 other (replicate room (pos 0)) [] (replicate room2 (pos 0)) []
 
 answers :
-    (answerOf 0 1 1 743 2 1486 false 54 135 ≡ (0, pos 422 ∷ pos 461 ∷ pos 502 ∷ pos 422 ∷ pos 462 ∷ pos 503 ∷ []))
-    × (answerOf 1 0 2 1486 1 743 false 135 54 ≡ (0, pos 422 ∷ pos 462 ∷ pos 503 ∷ pos 422 ∷ pos 461 ∷ pos 502 ∷ []))
-    × (answerOf 0 1 1 743 2 1486 false 53 135 ≡ (5, []))
-    × (answerOf 0 1 1 743 2 1486 false 54 134 ≡ (5, []))
-    × (answerOf 0 1 1 743 2 1486 true 54 135 ≡ (5, []))
+    (answerOf 0 1 38 213 76 426 false 54 135 ≡ (0, pos 58 ∷ pos 67 ∷ pos 78 ∷ pos 59 ∷ pos 68 ∷ pos 79 ∷ []))
+    × (answerOf 1 0 76 426 38 213 false 135 54 ≡ (0, pos 59 ∷ pos 68 ∷ pos 79 ∷ pos 58 ∷ pos 67 ∷ pos 78 ∷ []))
+    × (answerOf 0 1 38 213 76 426 false 53 135 ≡ (5, []))
+    × (answerOf 0 1 38 213 76 426 false 54 134 ≡ (5, []))
+    × (answerOf 0 1 38 213 76 426 true 54 135 ≡ (5, []))
 unfolding netBeyond coordinate spline refinedNet stored grid runs refinement exactRefinement rounded floorQuotient controlTriangle controlPoint
 answers = (refl, refl, refl, refl, refl)
 
@@ -80,6 +80,6 @@ scratch-lengths = (refl, refl, refl)
 
 -- of six numbers, the first three and the next are the two points
 two-points : (net : List ℤ) →
-    SeamHolds net 2 3 0 1 1 743 2 1486 0 (pos 422 ∷ pos 461 ∷ pos 502 ∷ pos 423 ∷ pos 462 ∷ pos 503 ∷ []) →
-    SeamClaimed net 2 3 0 1 1 743 2 1486 (0, pos 422 ∷ pos 461 ∷ pos 502 ∷ []) (0, pos 423 ∷ pos 462 ∷ pos 503 ∷ [])
+    SeamHolds net 2 3 0 1 38 213 76 426 0 (pos 58 ∷ pos 67 ∷ pos 78 ∷ pos 59 ∷ pos 68 ∷ pos 79 ∷ []) →
+    SeamClaimed net 2 3 0 1 38 213 76 426 (0, pos 58 ∷ pos 67 ∷ pos 78 ∷ []) (0, pos 59 ∷ pos 68 ∷ pos 79 ∷ [])
 two-points net c = c

@@ -1,5 +1,5 @@
--- The definitions that contracts cite: how far the points of a seam can be apart, the refusals, what the call answers,
--- and its contract.
+-- The definitions that contracts cite: how far apart the points of a seam can be, the refusals, and what the call
+-- answers and leaves.
 pub mod Seam
 pub mod Promises
 pub mod Refusals

@@ -12,7 +12,7 @@ use Rattle.refine.specs.Answers.{refusalOf, refineOutput}
 use Rattle.seam.specs.Seam.{SamePlace}
 
 -- the net after the greater number of steps is the other refined further. So the points that `Seam` speaks of differ by
--- at most half of 2 more than that difference of k and l, which is never more than (k + l + 2)/2 (`seam-by-depths`)
+-- at most (|k - l| + 2)/2 units, said doubled, which is never more than its (k + l + 2)/2 (`seam-by-depths`)
 abbrev pub SeamByDepths : Type 0
 SeamByDepths =
     (net : List ℤ) (w h k l : ℕ) (out scratch out2 scratch2 : List ℤ) →

@@ -40,7 +40,8 @@ places :
 places = (refl, refl, refl, refl, refl)
 
 -- every fault at once, and then without the one that was found, to none: 4 by k and by l, and a side of 513 that takes
--- one step and not two; 6 by the first place, by the second, and where they are not the same
+-- one step and not two; 6 by both places, in columns and in rows, by the second alone, and by two places of their
+-- grids that are not the same
 order :
     (seamRefusal tooFew 1026 2 7 7 134217729 0 0 0 true ≡ 1)
     × (seamRefusal tooFew 2 2 7 1 134217729 0 0 0 true ≡ 4)

@@ -1,6 +1,6 @@
 -- `seam::answers::store_points` meets its contract: six numbers, out of the bits that hold them, over the front.
 use mathlib.Core.Path.{_∙_}
-use mathlib.Core.List.{List, [], _∷_}
+use mathlib.Core.List.{[], _∷_}
 use lib.IntN.{ℤ}
 use lib.Seq.{sets}
 use mir.Val.{toZ, ofZ}

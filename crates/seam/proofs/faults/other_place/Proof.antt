@@ -1,5 +1,5 @@
 -- `seam::faults::other_place` meets its contract: no shift loses anything.
-use mathlib.Core.Path.{_≡_, sym, ap, _∙_}
+use mathlib.Core.Path.{sym, ap, _∙_}
 use mathlib.Core.Bool.{not}
 use Prim.Native.Nat.{_*_, _^_}
 use lib.Dec.{eqb}
