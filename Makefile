@@ -29,10 +29,19 @@ install: lib
 	sed 's|@PREFIX@|$(abspath $(PREFIX))|' ups.pc.in >"$(TO)/lib/pkgconfig/ups.pc"
 
 uninstall:
-	rm -f "$(TO)/lib/libups.a" "$(TO)/include/ups.h" "$(TO)/lib/pkgconfig/ups.pc"
+	rm -f "$(TO)/lib/libups.a" "$(TO)/include/ups.h" "$(TO)/lib/pkgconfig/ups.pc" "$(TO)/bin/ups"
+
+# the program ups: make install-desk PREFIX=path puts it into PREFIX/bin
+desk: lib
+	cd desk && CARGO_TARGET_DIR=../target/rust-desk cargo build --offline --release
+	install -D target/rust-desk/release/ups target/desk/ups
+
+install-desk: desk
+	install -d "$(TO)/bin"
+	install target/desk/ups "$(TO)/bin/ups"
 
 # the kernel's time over plain Rust's
 bench: lib
 	cd bench && CARGO_TARGET_DIR=../target/rust-bench cargo run --offline --release
 
-.PHONY: list lib install uninstall bench
+.PHONY: list lib install uninstall desk install-desk bench

@@ -20,7 +20,7 @@ ROOT = Path(sys.argv[1]) if len(sys.argv) > 1 else Path(__file__).resolve().pare
 PROMISES = "docs/PROMISES.md"
 LABELS = ("Definition", "Answer", "Stated", "Contract", "Proof")
 
-PATH = r"`((?:crates|docs|tests|bench|include|examples|rust|\.ci)/[^`]*)`"
+PATH = r"`((?:crates|docs|tests|bench|include|examples|rust|desk|\.ci)/[^`]*)`"
 LABELLED = r"^- (\w+):(.*(?:\n  .*)*)"
 CITATION = r"\s*(?:((?:`[^`/]+`,?\s+)+)in\s+)?" + PATH + r"\s*"
 
@@ -40,7 +40,7 @@ DUE = {
 
 # the most lines of a file
 MOST = {
-    "README.md": 151,
+    "README.md": 184,
     "docs/REFERENCE.md": 274,
     "examples/door.c": 80,
     "examples/point.c": 10,

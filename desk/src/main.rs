@@ -1,0 +1,7 @@
+//! The program `ups`.
+
+use std::process::ExitCode;
+
+fn main() -> ExitCode {
+    desk::main()
+}
