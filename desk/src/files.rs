@@ -15,6 +15,8 @@ const MOST_BYTES: usize = file_bytes(GREATEST_SIDE, GREATEST_SIDE);
 const MOST_TRIANGLES: usize = triangles(GREATEST_SIDE, GREATEST_SIDE);
 /// Bytes that are read or written at once.
 const BLOCK: usize = 1 << 16;
+/// Names that are tried for a file beside another.
+const MOST_NAMES: usize = 100;
 
 /// Whether a name is standard input or output.
 pub fn is_standard(name: &OsStr) -> bool {
@@ -61,7 +63,8 @@ enum Place {
 pub struct Output {
     name: OsString,
     place: Place,
-    to: BufWriter<Box<dyn Write>>,
+    /// None once it is dropped.
+    to: Option<BufWriter<Box<dyn Write>>>,
     /// The file, to be brought to the disk.
     file: Option<File>,
     renamed: bool,
@@ -99,22 +102,29 @@ impl Output {
         Output {
             name: name.to_owned(),
             place,
-            to: BufWriter::with_capacity(BLOCK, to),
+            to: Some(BufWriter::with_capacity(BLOCK, to)),
             file,
             renamed: false,
         }
     }
 
+    /// Does something with the writer.
+    fn with(
+        &mut self,
+        write: impl FnOnce(&mut dyn Write) -> io::Result<()>,
+    ) -> Result<(), Failure> {
+        let written = self.to.as_mut().map_or(Ok(()), |to| write(to));
+        written.map_err(|error| Failure::writing(&self.name, &error))
+    }
+
     /// Writes bytes.
     pub fn bytes(&mut self, bytes: &[u8]) -> Result<(), Failure> {
-        let written = self.to.write_all(bytes);
-        written.map_err(|error| Failure::writing(&self.name, &error))
+        self.with(|to| to.write_all(bytes))
     }
 
     /// Writes text.
     pub fn text(&mut self, text: fmt::Arguments) -> Result<(), Failure> {
-        let written = self.to.write_fmt(text);
-        written.map_err(|error| Failure::writing(&self.name, &error))
+        self.with(|to| to.write_fmt(text))
     }
 
     /// Whether it goes to a terminal.
@@ -125,13 +135,20 @@ impl Output {
         }
     }
 
+    fn is_beside(&self) -> bool {
+        matches!(self.place, Place::Beside { .. })
+    }
+
     /// Nothing is left to be written, and a regular file is on the disk.
     fn complete(&mut self) -> Result<(), Failure> {
-        let mut written = self.to.flush();
-        if let (Ok(()), Place::Beside { .. }, Some(file)) = (&written, &self.place, &self.file) {
-            written = file.sync_all();
+        self.with(|to| to.flush())?;
+        match &self.file {
+            Some(file) if self.is_beside() => {
+                let synced = file.sync_all();
+                synced.map_err(|error| Failure::writing(&self.name, &error))
+            }
+            _ => Ok(()),
         }
-        written.map_err(|error| Failure::writing(&self.name, &error))
     }
 
     fn rename(&mut self) -> Result<(), Failure> {
@@ -145,17 +162,24 @@ impl Output {
 }
 
 impl Drop for Output {
-    /// What was not finished is taken away.
+    /// What was not finished is taken away, and what was not written stays so.
     fn drop(&mut self) {
+        self.to.take().map(BufWriter::into_parts);
         if let (false, Place::Beside { beside, .. }) = (self.renamed, &self.place) {
             let _ = fs::remove_file(beside);
         }
     }
 }
 
-/// Puts outputs into their places, once all of them are whole.
+/// Puts outputs into their places, once all of them are whole. What cannot be taken back, as on
+/// standard output, is written last.
 pub fn finish<const N: usize>(mut outputs: [Output; N]) -> Result<(), Failure> {
-    outputs.iter_mut().try_for_each(Output::complete)?;
+    for beside in [true, false] {
+        let mut some = outputs
+            .iter_mut()
+            .filter(|output| output.is_beside() == beside);
+        some.try_for_each(Output::complete)?;
+    }
     outputs.iter_mut().try_for_each(Output::rename)
 }
 
@@ -180,14 +204,18 @@ fn straight(path: &Path) -> io::Result<File> {
 
 /// A new file in the folder of this one.
 fn create_beside(path: &Path) -> io::Result<(PathBuf, File)> {
-    let name = path.file_name().ok_or(io::ErrorKind::InvalidInput)?;
-    let mut hidden = OsString::from(".");
-    hidden.push(name);
-    hidden.push(format!(".{}.part", process::id()));
-    let beside = path.with_file_name(hidden);
     let mut options = OpenOptions::new();
-    let file = options.write(true).create_new(true).open(&beside)?;
-    Ok((beside, file))
+    options.write(true).create_new(true);
+    let name = |n: usize| format!(".ups-{}-{n}.part", process::id());
+    // A name is taken where a command writes two files to one folder.
+    for n in 0..MOST_NAMES {
+        let beside = path.with_file_name(name(n));
+        match options.open(&beside) {
+            Err(error) if error.kind() == io::ErrorKind::AlreadyExists => (),
+            file => return Ok((beside, file?)),
+        }
+    }
+    Err(io::ErrorKind::AlreadyExists.into())
 }
 
 /// Two names of one file, as far as can be told before it is there.

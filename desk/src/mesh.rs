@@ -37,7 +37,7 @@ impl Mesh {
 }
 
 /// The columns or rows that are taken: every so many-th, and the last.
-fn lines(side: usize, every: usize) -> Vec<usize> {
+pub fn lines(side: usize, every: usize) -> Vec<usize> {
     let last = side - 1;
     (0..last).step_by(every).chain([last]).collect()
 }

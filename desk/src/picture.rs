@@ -4,7 +4,7 @@
 //! it and above. The scale is the same in all directions.
 
 use crate::axes::{text_width, Axes};
-use crate::mesh::Mesh;
+use crate::mesh::{lines, Mesh};
 use crate::shading::{seen, Contrast};
 use crate::surface::{millimetres, Surface};
 use crate::svg::{self, Frame};
@@ -60,7 +60,7 @@ pub fn default_depth(w: usize, h: usize) -> usize {
     (0..=GREATEST_DEPTH).rev().find(few).unwrap_or(0)
 }
 
-/// Of how many columns and rows one is drawn.
+/// Of how many columns and rows one is drawn, and the last.
 struct Thinning {
     facets: usize,
     controls: usize,
@@ -68,11 +68,10 @@ struct Thinning {
 
 impl Thinning {
     fn of(start: &Surface, refined: &Surface) -> Thinning {
-        let cells = |side: usize, s: usize| side.saturating_sub(1).div_ceil(s);
-        let cells_drawn = |s| cells(refined.w, s).saturating_mul(cells(refined.h, s));
-        let controls = |s| start.w.div_ceil(s).saturating_mul(start.h.div_ceil(s));
+        let facets = |s| 2 * (lines(refined.w, s).len() - 1) * (lines(refined.h, s).len() - 1);
+        let controls = |s| lines(start.w, s).len() * lines(start.h, s).len();
         Thinning {
-            facets: least_power(|s| cells_drawn(s) <= MOST_FACETS / 2),
+            facets: least_power(|s| facets(s) <= MOST_FACETS),
             controls: least_power(|s| controls(s) <= MOST_CONTROLS),
         }
     }
@@ -107,19 +106,18 @@ fn ordinal(n: usize) -> String {
     format!("{n}{end}")
 }
 
-/// The control triangles of every s-th vertex on the door.
+/// The control triangles of vertices on the door, of every s-th column and row and the last.
 fn controls(start: &Surface, s: usize) -> Vec<Triangle> {
-    let records = start.numbers().chunks_exact(RECORD).enumerate();
-    let drawn = |n: usize| {
-        let (i, j) = (n % start.w, n / start.w);
-        i % s == 0 && j % s == 0 && start.holds(EDGE * i, EDGE * j)
-    };
-    let of = |record: &[i32]| {
-        let control = |k: usize| [0, 1, 2].map(|n| millimetres(record[POINT * k + n]));
+    let columns = lines(start.w, s);
+    let vertices = lines(start.h, s).into_iter();
+    let vertices = vertices.flat_map(|j| columns.iter().map(move |i| (*i, j)));
+    let on_door = vertices.filter(|(i, j)| start.holds(EDGE * i, EDGE * j));
+    let numbers = |(i, j)| {
+        let first = RECORD * (j * start.w + i);
+        let control = |k| [0, 1, 2].map(|n| millimetres(start.numbers()[first + POINT * k + n]));
         [0, 1, 2].map(control)
     };
-    let kept = records.filter(|(n, _)| drawn(*n));
-    kept.map(|(_, record)| of(record)).collect()
+    on_door.map(numbers).collect()
 }
 
 /// The facets, the nearest last, and the control triangles over them.

@@ -1,6 +1,7 @@
 //! The commands: what each takes, what its help says and what it does.
 
 pub mod check;
+mod help;
 pub mod list;
 pub mod mesh;
 pub mod picture;
@@ -189,5 +190,3 @@ fn differ(names: [Option<&OsStr>; 2]) -> Result<(), Failure> {
 fn write_net(arguments: &Arguments, net: &Net) -> Result<(), Failure> {
     files::write(arguments.word("-o").unwrap_or_default(), &net.to_file()?)
 }
-
-mod help;
