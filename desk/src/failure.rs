@@ -13,7 +13,7 @@ pub enum Failure {
         file: Option<String>,
         refusal: Refusal,
     },
-    /// Wrong usage, or something in a file that the library is not asked about.
+    /// Wrong usage, a file that cannot be read or written, or another line in it than is due.
     Usage(String),
 }
 
