@@ -40,7 +40,7 @@ DUE = {
 
 # the most lines of a file
 MOST = {
-    "README.md": 184,
+    "README.md": 185,
     "docs/REFERENCE.md": 274,
     "examples/door.c": 80,
     "examples/point.c": 10,

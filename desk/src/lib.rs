@@ -1,4 +1,6 @@
 //! The program `ups`: net files checked, listed, refined, meshed and drawn, over the crate `ups`.
+//! Points, refined nets, splits and refusals are the library's, which is proved; what is here is
+//! tested and not proved.
 //!
 //! `docs/PROGRAM.md` of the repository says what each command takes and gives. `arguments` takes a
 //! command line apart, `commands` has a module for each command, `files` and `text` read and write,

@@ -1,5 +1,6 @@
 //! The triangles of a surface with their points, all of them or of some columns and rows alone.
 
+use crate::progress::Progress;
 use crate::surface::{Point, Surface};
 use ups::Refusal;
 
@@ -24,7 +25,9 @@ impl Mesh {
         }
         let mut points = Vec::new();
         let mut numbers = vec![0; used.len()];
+        let mut progress = Progress::of(used.len(), false);
         for (n, _) in used.iter().enumerate().filter(|(_, used)| **used) {
+            progress.done(n);
             numbers[n] = points.len() as u32;
             let (i, j) = (columns[n % columns.len()], rows[n / columns.len()]);
             points.push(surface.vertex(i, j)?);
