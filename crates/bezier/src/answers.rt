@@ -1,7 +1,7 @@
 // What a Bézier net answers. `specs/Answers.antt` gives document 01's number of each case.
 
 // A call that writes into lent memory.
-#[derive(Drop)]
+#[derive(Clone, Copy)]
 pub enum BezierAnswer {
     Done,
     Refused(u32),

@@ -14,7 +14,7 @@ use triangles::{coordinate_values, load_triangle, reorder_controls, triangle_bey
 
 // What the points share at a corner, in one coordinate: multiples of document 01's points there. They are formed once,
 // which is faster than a sum of nine terms for each point.
-#[derive(Drop)]
+#[derive(Clone, Copy)]
 struct Terms {
     // 36s
     s: i32,

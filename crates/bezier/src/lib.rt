@@ -1,4 +1,6 @@
 // Bézier nets.
+#![tactic(auto)]
+
 mod answers;
 mod bezier;
 

@@ -1,4 +1,6 @@
 // The coarse net of a net.
+#![tactic(auto)]
+
 mod coarse;
 
 // For splitting, which establishes the preconditions.

@@ -7,7 +7,7 @@ ghost use Rattle.de_casteljau.specs.Averages.{average, first_average, second_ave
 use crate::points::{Corner, Ordinates, ordinates_of};
 
 // Source 000's intermediate ordinates b^r(λ1, λ2, λ3). The indices add up to 2 - r.
-#[derive(Drop)]
+#[derive(Clone, Copy)]
 pub struct Averages {
     // b^1(1, 0, 0)
     pub b100: i64,

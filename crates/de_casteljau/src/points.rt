@@ -4,7 +4,7 @@ ghost use Rattle.exact.specs.WeightedSum.{Within};
 ghost use Rattle.de_casteljau.specs.Ordinates.{values_of, corner_s, corner_u, corner_v, ordinates};
 
 // ck, cn and cm of a corner.
-#[derive(Drop)]
+#[derive(Clone, Copy)]
 pub struct Corner {
     pub k: i64,
     pub n: i64,
@@ -12,7 +12,7 @@ pub struct Corner {
 }
 
 // Source 000's Bézier ordinates b(λ1, λ2, λ3) of the small triangle: P, the middle of the edge P, Q, the centre.
-#[derive(Drop)]
+#[derive(Clone, Copy)]
 pub struct Ordinates {
     // sP
     pub b200: i64,

@@ -1,4 +1,6 @@
 // Numbers as decimal text.
+#![tactic(auto)]
+
 mod digits;
 
 // For the lines of the listing.

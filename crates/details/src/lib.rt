@@ -1,4 +1,6 @@
 // Details: their records in lent memory, their range, and cleaning.
+#![tactic(auto)]
+
 mod answers;
 mod cleaning;
 mod ranges;

@@ -1,4 +1,6 @@
 // Places on the door.
+#![tactic(auto)]
+
 mod cells;
 
 // For the crates above, which have refused every other size, outline and place.

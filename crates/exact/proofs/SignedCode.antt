@@ -102,7 +102,7 @@ module _ {w : Width} (L : List (Leaf w)) where
 
   -- the bits that the code holds
   abbrev pub held : Expr → ℕ
-  held (var i) = get_or (map (λ (l : Leaf w). l.held-bits) L) i 0
+  held (var i) = get_or (map (λ (l : Leaf w). l.held_bits) L) i 0
   held (lit z) = of_z w z
   held (op o a b) = of_z w (apply o (to_z w (held a)) (to_z w (held b)))
 
@@ -117,7 +117,7 @@ module _ {w : Width} (L : List (Leaf w)) where
   leaves_sized (l ∷ K) = (l.within, leaves_sized K)
 
   leaf_reads : (K : List (Leaf w)) (i : ℕ) →
-      to_z w (get_or (map (λ (l : Leaf w). l.held-bits) K) i 0) ≡ get_or (map (λ (l : Leaf w). l.exact) K) i (pos 0)
+      to_z w (get_or (map (λ (l : Leaf w). l.held_bits) K) i 0) ≡ get_or (map (λ (l : Leaf w). l.exact) K) i (pos 0)
   leaf_reads [] i = to_z_pos w (pow_pos (hbits w))
   leaf_reads (l ∷ K) zero = l.reads
   leaf_reads (l ∷ K) (suc i) = leaf_reads K i

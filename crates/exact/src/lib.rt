@@ -1,6 +1,8 @@
 // Exact whole-number arithmetic: rounding of a quotient, weighted sums, and a list laid over the front of another.
 // Signed arithmetic of the kernel is in `rounding` and `sums`, in the steps of `de_casteljau`, in the terms of
 // `bezier`, and where details are taken, added and compared.
+#![tactic(auto)]
+
 mod filling;
 mod rounding;
 mod sums;

@@ -1,4 +1,6 @@
 // The outline of a refined net.
+#![tactic(auto)]
+
 mod rows;
 
 // For the crates above: callers establish the precondition.

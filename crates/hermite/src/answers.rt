@@ -1,6 +1,6 @@
 // What the call answers. `specs/Answers.antt` gives document 02's number of each case.
 
-#[derive(Drop)]
+#[derive(Clone, Copy)]
 pub enum GivenAnswer {
     Done,
     Refused(u32),

@@ -1,4 +1,6 @@
 // The net through given points with given derivatives: Hermite interpolation at the vertices.
+#![tactic(auto)]
+
 mod answers;
 mod controls;
 mod interpolation;

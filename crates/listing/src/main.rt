@@ -1,5 +1,7 @@
 // The listing program: a net file from standard input, refined once, and the points of its vertices as text; or the
 // number of its first fault.
+#![tactic(auto)]
+
 ghost use Rattle.std.specs.Prelude.{◌+◌, ◌*◌, ◌≤◌, ◌<◌, length};
 ghost use Rattle.net.specs.Refusals.{AcceptedNet};
 ghost use Rattle.listing_text.specs.Listing.{longest_line};

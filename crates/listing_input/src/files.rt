@@ -16,7 +16,7 @@ pub const INPUT_SIZE: usize = 65536;
 pub const BUFFER_SIZE: usize = 16384;
 
 // The width and the height of the refined net.
-#[derive(Drop)]
+#[derive(Clone, Copy)]
 pub enum ListAnswer {
     Net(usize, usize),
     Refused(u32),

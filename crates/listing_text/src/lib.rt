@@ -1,4 +1,6 @@
 // The listing program's text: the listing of a net in lines.
+#![tactic(auto)]
+
 mod lines;
 mod pieces;
 

@@ -13,7 +13,7 @@ use surface::{PointAnswer, surface_point};
 const LONGEST_LINE: usize = 46;
 
 // Pieces one after the other: how many bytes they have, and which piece comes next.
-#[derive(Drop)]
+#[derive(Clone, Copy)]
 pub struct Collected {
     pub count: usize,
     pub next: usize,

@@ -1,6 +1,6 @@
 // What merging answers. `specs/Answers.antt` gives document 01's number of each case.
 
-#[derive(Drop)]
+#[derive(Clone, Copy)]
 pub enum MergeAnswer {
     Done,
     Refused(u32),

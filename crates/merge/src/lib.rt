@@ -1,4 +1,6 @@
 // Merging a coarse net and details into a net.
+#![tactic(auto)]
+
 mod answers;
 mod merging;
 mod sums;

@@ -1,4 +1,6 @@
 // Splitting, cleaning and merging one after the other.
+#![tactic(auto)]
+
 mod cleaned;
 mod round_trip;
 

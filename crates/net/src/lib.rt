@@ -1,4 +1,6 @@
 // Nets of control triangles: sizes, vertices, storage and ranges.
+#![tactic(auto)]
+
 mod records;
 mod sizes;
 mod storage;

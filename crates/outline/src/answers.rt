@@ -1,6 +1,6 @@
 // What checking an outline answers. `specs/Answers.antt` gives the number of each case.
 
-#[derive(Drop)]
+#[derive(Clone, Copy)]
 pub enum CheckAnswer {
     Done,
     Refused(u32),

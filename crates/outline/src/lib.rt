@@ -1,4 +1,6 @@
 // Outlines: which triangles of a net are present.
+#![tactic(auto)]
+
 mod answers;
 mod bytes;
 mod checking;

@@ -1,4 +1,6 @@
 // Surface points, the viewer's points and Bézier nets of a net with an outline.
+#![tactic(auto)]
+
 mod bezier_nets;
 mod points;
 

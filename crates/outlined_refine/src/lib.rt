@@ -1,4 +1,6 @@
 // Refining with an outline.
+#![tactic(auto)]
+
 mod faults;
 mod refining;
 

@@ -1,4 +1,6 @@
 // Points of the net refined with an outline, and demand 3 on the door of the running code.
+#![tactic(auto)]
+
 mod faults;
 mod points;
 

@@ -1,4 +1,6 @@
 // Places of the grid: the chosen triangle, the shares of its corners, and their order.
+#![tactic(auto)]
+
 mod places;
 
 // For the crates above. `place_refusal` has no precondition, and where it is 0, callers have those of the others.

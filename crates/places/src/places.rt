@@ -8,7 +8,7 @@ ghost use Rattle.places.specs.Located.{shares, Placed, InOrder, place_refusal};
 use net::{bad_size, short_net};
 
 // A place's cell, the kind of its triangle, and the shares of corners 1, 2, 3.
-#[derive(Drop)]
+#[derive(Clone, Copy)]
 pub struct Located {
     pub i: usize,
     pub j: usize,
@@ -19,7 +19,7 @@ pub struct Located {
 }
 
 // Document 01's P, Q and T as places among the corners, whether Q is the next corner after P, and A, B and G.
-#[derive(Drop)]
+#[derive(Clone, Copy)]
 pub struct Ordered {
     pub p: usize,
     pub q: usize,

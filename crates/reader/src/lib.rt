@@ -1,4 +1,6 @@
 // The net file's reader.
+#![tactic(auto)]
+
 mod answers;
 mod reading;
 

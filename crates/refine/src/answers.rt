@@ -1,6 +1,6 @@
 // What refining answers. `specs/Answers.antt` gives document 01's number of each case.
 
-#[derive(Drop)]
+#[derive(Clone, Copy)]
 pub enum RefineAnswer {
     Done,
     Refused(u32),

@@ -1,4 +1,6 @@
 // Refining a net by k steps.
+#![tactic(auto)]
+
 mod answers;
 mod depth;
 mod refining;

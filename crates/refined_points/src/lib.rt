@@ -1,4 +1,6 @@
 // Points of the refined net, and demand 3 of the running code.
+#![tactic(auto)]
+
 mod points;
 
 // Refining and a surface point in one go: no preconditions.

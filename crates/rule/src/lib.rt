@@ -1,4 +1,6 @@
 // The rule of refinement at one vertex: by any weight table that passes the test, and by ours in lower terms.
+#![tactic(auto)]
+
 mod reduced;
 mod rule;
 

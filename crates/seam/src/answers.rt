@@ -7,7 +7,7 @@ use net::store_point;
 use surface::Point;
 
 // The point after k steps and the point after l steps.
-#[derive(Drop)]
+#[derive(Clone, Copy)]
 pub enum SeamAnswer {
     At(Point, Point),
     Refused(u32),

@@ -1,4 +1,6 @@
 // The two points of a seam, and how far apart they can be.
+#![tactic(auto)]
+
 mod answers;
 mod faults;
 mod points;

@@ -1,4 +1,6 @@
 // Splitting a net into a coarse net and details.
+#![tactic(auto)]
+
 mod answers;
 mod detail;
 mod splitting;

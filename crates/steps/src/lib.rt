@@ -1,4 +1,6 @@
 // Steps of refinement over lent slices.
+#![tactic(auto)]
+
 mod pairs;
 mod sizes;
 mod steps;

@@ -1,4 +1,6 @@
 // Surface points and the viewer's points.
+#![tactic(auto)]
+
 mod answers;
 mod points;
 

@@ -1,4 +1,6 @@
 // The control points of a triangle: their range, loading them, and their order.
+#![tactic(auto)]
+
 mod loading;
 mod triangles;
 

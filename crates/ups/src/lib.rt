@@ -2,6 +2,8 @@
 // Rust, which include/ups.h and rust/src/raw.rs declare. A slice is a pointer and then a length; 0 is accepted, another
 // number refuses. As in Rust, a slice that is lent to be written overlaps no other. Of mirror images (document 02, d)
 // speaks `crates/mirror/specs/Promises.antt`, by the definitions that these contracts cite.
+#![tactic(auto)]
+
 ghost use Rattle.std.specs.Prelude.{◌≡◌, [], ◌∷◌, ◌≤◌, ltb, length, take};
 ghost use Rattle.exact.specs.Filling.{over, UnchangedFrom};
 ghost use Rattle.net.specs.Refusals.{output_after, vertex_refusal};

@@ -1,4 +1,6 @@
 // The words of the net file: a kind and a payload in four bytes.
+#![tactic(auto)]
+
 mod layout;
 mod words;
 

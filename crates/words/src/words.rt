@@ -8,7 +8,7 @@ ghost use Rattle.words.specs.Refusals.{word_faults};
 ghost use Rattle.words.specs.Answers.{word_outcome, answer};
 
 // What the bytes that are left begin with where a word is due: the payload of a word of the kind asked for, or 7 or 8.
-#[derive(Drop)]
+#[derive(Clone, Copy)]
 pub enum Parsed {
     Payload(u32),
     Refused(u32),

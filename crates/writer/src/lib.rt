@@ -1,4 +1,6 @@
 // The net file's writer.
+#![tactic(auto)]
+
 mod answers;
 mod writing;
 

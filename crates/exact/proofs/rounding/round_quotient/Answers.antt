@@ -19,11 +19,11 @@ use Rattle.exact.proofs.Linear.{expression_parts}
 use Rattle.exact.proofs.Sizes.{fits_of_size}
 use Rattle.exact.proofs.SignedCode.{Leaf, of_number, of_unsigned, exacts, held, stays, reads_exact, operation_fits, less_taken, less_left}
 use Rattle.exact.proofs.RoundingLaws.{rounded_size}
-use Rattle.exact.proofs.rounding.round_quotient.Statement.{statement}
-use Rattle.exact.proofs.rounding.round_quotient.Tie as tie
+use Rattle.exact.proofs.rounding.round_quotient.Goals as goal
+use Rattle.exact.proofs.rounding.round_quotient.Goals.{Else-n-lt0, Start, Then-n-lt0}
 
 -- n, and d cast to an i64
-abbrev leaves : tie.Start → List (Leaf w64)
+abbrev leaves : Start → List (Leaf w64)
 leaves c = of_number c.args.n c.ranges.n c.requires.2 ∷ of_unsigned c.args.d c.requires.1 tt ∷ []
 
 abbrev twice : ℕ → Expr
@@ -57,12 +57,12 @@ above_zero zero e h = absurd (omega (integers, to_z_pos w64 (pow_pos (hbits w64)
 above_zero (suc b) e h = omega arith
 
 -- a division of the code whose exact quotient is the rounded number: its needs, and what it gives
-record Divided (c : tie.Start) (e : Expr) : Type 0 where
+record Divided (c : Start) (e : Expr) : Type 0 where
   divisor : 0 < held (leaves c) (twice 1)
   fits : SFits w64 (quot_z (to_z w64 (held (leaves c) e)) (to_z w64 (held (leaves c) (twice 1))))
   gives : quot_z (to_z w64 (held (leaves c) e)) (to_z w64 (held (leaves c) (twice 1))) ≡ rounded c.args.n c.args.d
 
-divided : (c : tie.Start) (e : Expr) → T (stays (leaves c) e) →
+divided : (c : Start) (e : Expr) → T (stays (leaves c) e) →
     quot_z (value (exacts (leaves c)) e) (pos (2 * c.args.d)) ≡ rounded c.args.n c.args.d → Divided c e
 divided c e t q =
     let L = leaves c in
@@ -76,63 +76,20 @@ divided c e t q =
       gives = gives;
     }
 
-below_at : (c : tie.Then1) → Divided c.before less
+below_at : (c : Then-n-lt0) → Divided c.before less
 below_at c =
     let s = c.before in
     divided s less tt (below s.args.n s.args.d
-    (less_taken s.args.n (pos 0) (rw (to_z-of_z s.ranges.n) at c.if1.true)))
+    (less_taken s.args.n (pos 0) (rw (to_z-of_z s.ranges.n) at c.if-n-lt0.true)))
 
-above_at : (c : tie.Else1) → Divided c.before more
+above_at : (c : Else-n-lt0) → Divided c.before more
 above_at c =
     let s = c.before in
     divided s more tt (above s.args.n s.args.d
-    (less_left s.args.n (pos 0) (rw (to_z-of_z s.ranges.n) at c.if1.false)))
+    (less_left s.args.n (pos 0) (rw (to_z-of_z s.ranges.n) at c.if-n-lt0.false)))
 
-cast-wide : tie.Need-overflow-cast-wide
-cast-wide c = search rules
+pub returns-then-n-lt0 : goal.returns-then-n-lt0
+returns-then-n-lt0 c = to_z-of_z (below_at c).fits ∙ (below_at c).gives
 
-mul-result : tie.Need-overflow-mul-result
-mul-result c = operation_fits (leaves c.before) times (lit (pos 2)) (var 0) tt
-
-sub-result : tie.Need-overflow-sub-result
-sub-result c = operation_fits (leaves c.before) minus (twice 0) (var 1) tt
-
-mul-result-2 : tie.Need-overflow-mul-result-2
-mul-result-2 c = operation_fits (leaves c.before) times (lit (pos 2)) (var 1) tt
-
-div-result : tie.Need-nonzero-div-result
-div-result c = ((below_at c).divisor, (below_at c).ranges)
-
-mul-result-3 : tie.Need-overflow-mul-result-3
-mul-result-3 c = operation_fits (leaves c.before) times (lit (pos 2)) (var 0) tt
-
-add-result : tie.Need-overflow-add-result
-add-result c = operation_fits (leaves c.before) plus (twice 0) (var 1) tt
-
-mul-result-4 : tie.Need-overflow-mul-result-4
-mul-result-4 c = operation_fits (leaves c.before) times (lit (pos 2)) (var 1) tt
-
-div-result-2 : tie.Need-nonzero-div-result-2
-div-result-2 c = ((above_at c).divisor, (above_at c).ranges)
-
-returns : tie.Need-returns
-returns c = to_z-of_z (below_at c).ranges ∙ (below_at c).gives
-
-returns-2 : tie.Need-returns-2
-returns-2 c = to_z-of_z (above_at c).ranges ∙ (above_at c).gives
-
-pub round_quotient_spec : {M : Type 1} → statement M
-round_quotient_spec =
-    tie.close
-    (tie.spec
-    cast-wide
-    mul-result
-    sub-result
-    mul-result-2
-    div-result
-    mul-result-3
-    add-result
-    mul-result-4
-    div-result-2
-    returns
-    returns-2)
+pub returns-else-n-lt0 : goal.returns-else-n-lt0
+returns-else-n-lt0 c = to_z-of_z (above_at c).fits ∙ (above_at c).gives

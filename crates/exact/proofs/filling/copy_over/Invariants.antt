@@ -1,0 +1,28 @@
+-- `exact::filling::copy_over` meets its contract: each iteration stores one run of one number more (`over_more`),
+-- and the runs of a list's numbers are the list.
+use mathlib.Core.Path.{◌≡◌, refl, sym, ◌∙◌, ap}
+use mathlib.Core.List.{List, [], ◌∷◌}
+use Prim.Native.Nat.{ℕ, ◌-◌, ◌≤◌}
+use native.Mathlib.Nat.{mul-one, le_refl}
+use native.Mathlib.Omega.{arith}
+use lib.ListN.{length, get_or, set}
+use lib.Seq.{sets, take-length}
+use lib.IntN.{ℤ, pos}
+use mir.Facts.{to_z-of_z}
+use mir.Syntax.{w32}
+use borrow.Author.Rules.{rules, sfits_of}
+use Rattle.exact.specs.Filling.{over, runs}
+use Rattle.exact.proofs.FillingLaws.{over_none, over_more, runs_of_list}
+use Rattle.exact.proofs.filling.copy_over.Given as goal
+
+-- the number at i, as a run
+abbrev pub single : List ℤ → ℕ → List ℤ
+single numbers i = get_or numbers i (pos 0) ∷ []
+
+abbrev pub invariant-loop-i : goal.invariant-loop-i
+invariant-loop-i l =
+    (l.i ≤ length l.numbers) × (length l.out ≡ length l.initial.out) × (l.out ≡ over (runs l.i (single l.numbers)) l.initial.out)
+
+abbrev pub decreases-loop-i : goal.decreases-loop-i
+decreases-loop-i l =
+    length l.numbers - l.i

@@ -1,0 +1,23 @@
+-- `net::storage::any_beyond` meets its contract: what was found is whether a number before i is beyond the range.
+use mathlib.Core.Path.{◌≡◌, refl, sym, ap, ◌∙◌}
+use mathlib.Core.Bool.{◌||◌}
+use Prim.Native.Nat.{◌-◌, ◌≤◌}
+use native.Mathlib.Omega.{arith}
+use lib.IntN.{pos}
+use lib.ListN.{length, get_or, take}
+use lib.Seq.{take_all}
+use mir.Syntax.{w32}
+use borrow.Author.Rules.{rules}
+use Rattle.exact.proofs.SignedCode.{reads_back}
+use Rattle.net.specs.Refusals.{net_limit, beyond, any_beyond}
+use Rattle.net.proofs.Ranges.{any_next}
+use Rattle.net.proofs.storage.any_beyond.Goals as goal
+
+pub loop-i-preserved : goal.loop-i-preserved
+loop-i-preserved c =
+    let at = c.loop-i in
+    let numbers = c.args.numbers.now in
+    let z = get_or numbers at.i (pos 0) in
+    let found = c.number_beyond-bad.ensures ∙ ap beyond (reads_back w32 z c.z-1.given) in
+    let more = any_next net_limit numbers at.i c.loop-i-test.true in
+    (search rules, (λ t. at.invariant.1 t || found t) ∙ sym more)

@@ -1,0 +1,48 @@
+-- `net::vertices::vertex` meets its contract: an accepted vertex lies in the net.
+use mathlib.Core.Path.{◌≡◌, sym, ap, ◌∙◌}
+use mathlib.Core.List.{List}
+use Prim.Native.Nat.{ℕ, ◌+◌, ◌-◌, ◌*◌, ◌≤◌}
+use native.Mathlib.Omega.{arith}
+use lib.IntN.{ℤ}
+use lib.ListN.{length, take, drop}
+use borrow.Author.Rules.{rules}
+use Rattle.net.specs.Net.{vertex_at, start, stride}
+use Rattle.net.specs.Refusals.{vertex_refusal}
+use Rattle.net.proofs.Places.{good_vertex, vertex_lies, accepted_part, refused_part}
+use Rattle.net.proofs.vertices.vertex.Goals as goal
+use Rattle.net.proofs.vertices.vertex.Goals.{Then-refusal-eq0}
+
+module _ (c : Then-refusal-eq0) where
+  abbrev net : List ℤ
+  net = c.args.net.now
+
+  abbrev w : ℕ
+  w = c.args.w
+
+  abbrev h : ℕ
+  h = c.args.h
+
+  abbrev i : ℕ
+  i = c.args.i
+
+  abbrev j : ℕ
+  j = c.args.j
+
+  none : vertex_refusal net w h i j ≡ 0
+  none = sym c.vertex_refusal-refusal.ensures ∙ c.if-refusal-eq0.true
+
+  lies : (start w (vertex_at i j) + stride ≤ length net) × (start w (vertex_at i j) + stride ≤ stride * 1050625)
+  lies = vertex_lies net w h i j (good_vertex net w h i j none)
+
+pub returns-then-refusal-eq0 : goal.returns-then-refusal-eq0
+returns-then-refusal-eq0 c =
+    let t = c.before in
+    let at = start (w t) (vertex_at (i t) (j t)) in
+    let all : at + stride - at ≡ stride = omega arith in
+    ap (λ (n : ℕ). take n (drop at (net t))) all ∙ accepted_part (net t) (w t) (h t) (i t) (j t) (none t)
+
+pub returns-else-refusal-eq0 : goal.returns-else-refusal-eq0
+returns-else-refusal-eq0 c = refused_part _ _ _ _ _ (λ e. c.if-refusal-eq0.false (c.vertex_refusal-refusal.ensures ∙ e))
+
+pub slice_bounds-result-end : goal.slice_bounds-result-end
+slice_bounds-result-end c = let l = lies c in search (rules, l)
