@@ -145,10 +145,10 @@ module _ (Has : Triangle → Type 0) where
   walk_over : (t u : Triangle) → Shared Has t u → Walk (Shared Fine) (middle t) (middle u)
   walk_over t u e =
       let c = children e.0 in
-      let f : Fine c.first = subst Has (sym c.of-first) e.1 in
-      let g : Fine c.second = subst Has (sym c.of-second) e.2 in
-      subst (λ (x : Triangle). Walk (Shared Fine) (middle x) (middle u)) c.of-first
-      (subst (λ (x : Triangle). Walk (Shared Fine) (middle (parent 1 c.first)) (middle x)) c.of-second
+      let f : Fine c.first = subst Has (sym c.of_first) e.1 in
+      let g : Fine c.second = subst Has (sym c.of_second) e.2 in
+      subst (λ (x : Triangle). Walk (Shared Fine) (middle x) (middle u)) c.of_first
+      (subst (λ (x : Triangle). Walk (Shared Fine) (middle (parent 1 c.first)) (middle x)) c.of_second
       (walk_on (walk_back (walk_middle c.first f))
       (walk_on (step c.first c.second start (inl (c.edge, f, g))) (walk_middle c.second g))))
 

@@ -225,7 +225,7 @@ joined_down l {c} {d} {hi} {lo} p q k w x y b =
 pub join_grown : {Edge : ℕ → ℕ → Type 0} {before after : List ℕ} {a b : ℕ} → a < length before → b < length before →
     Held Edge before → Walk Edge a b → JoinedAt before after a b → Grown Edge before after × SameRoot after a b
 join_grown {Edge} {before} {after} {a} {b} p q k w j =
-    go j.first j.second j.first-root j.second-root j.stored
+    go j.first j.second j.first_root j.second_root j.stored
     (dec_lt j.first j.second) (dec_lt j.second j.first)
   where
     to : (hi lo : ℕ) → after ≡ set before hi lo →

@@ -163,7 +163,7 @@ module _ (file : List ℕ) (lent : List ℤ) (taken : Readable file lent) where
   points_clear = clear_run n (λ i. point_faults (from_point file i)) (after_head file short taken).0
 
   room : numbers width height ≤ length lent
-  room = (good file short taken (length lent) refl).room-enough
+  room = (good file short taken (length lent) refl).room_enough
 
   numbers_read : length (file_numbers file) ≡ numbers width height
   numbers_read =

@@ -197,15 +197,15 @@ record Overlap (d e : Bool) (i j k l : ℕ) (P Q P' Q' : Index) : Type 0 where
   sizes : Offset d P × Offset d Q × Offset e P' × Offset e Q'
 
 overlap : (d e : Bool) (i j k l : ℕ) (c : CommonCorners (triangle_at i j d) (triangle_at k l e)) →
-    Overlap d e i j k l c.first c.second c.first-other c.second-other
+    Overlap d e i j k l c.first c.second c.first_other c.second_other
 overlap d e i j k l c =
     record {
       different = place_once d c.first c.second c.different;
-      first_column = columns c.first c.first-other c.first-common;
-      first_row = rows c.first c.first-other c.first-common;
-      second_column = columns c.second c.second-other c.second-common;
-      second_row = rows c.second c.second-other c.second-common;
-      sizes = (offset d c.first, offset d c.second, offset e c.first-other, offset e c.second-other);
+      first_column = columns c.first c.first_other c.first_common;
+      first_row = rows c.first c.first_other c.first_common;
+      second_column = columns c.second c.second_other c.second_common;
+      second_row = rows c.second c.second_other c.second_common;
+      sizes = (offset d c.first, offset d c.second, offset e c.first_other, offset e c.second_other);
     }
   where
     columns : (P Q : Index) → corner_of d i j P ≡ corner_of e k l Q → i + offset_column d P ≡ k + offset_column e Q

@@ -58,7 +58,7 @@ module _ (outline : List ℕ) (w h : ℕ) where
   edge_ends a b e =
       let s = e.shared in (
         subst In (sym e.first_byte) (present_in e.first s.1),
-        subst In (sym e.second-byte) (present_in e.second s.2),
+        subst In (sym e.second_byte) (present_in e.second s.2),
       )
 
   -- ---- joins one after the other
@@ -187,7 +187,7 @@ module _ (outline : List ℕ) (w h : ℕ) where
     beside_joined s =
         edge_joined (ltb (i + 2) w) down beside s (along_e3 i j) (p, q)
         (λ e. (omega (arith, ltb-true (i + 2) w e), q)) (λ o. lt-ltb (i + 2) w (omega (arith, o.0))) refl
-        (cell_bytes w h i j p q).beside-byte
+        (cell_bytes w h i j p q).beside_byte
 
     pub above_joined : {l m : List ℕ} → Searched outline w h l →
         JoinedIf (joins outline (ltb (j + 2) h) (at + 1) (at + 2 * (w - 1))) l m (at + 1) (at + 2 * (w - 1)) →
@@ -195,7 +195,7 @@ module _ (outline : List ℕ) (w h : ℕ) where
     above_joined s =
         edge_joined (ltb (j + 2) h) down above s (along_e1 i j) (p, q)
         (λ e. (p, omega (arith, ltb-true (j + 2) h e))) (λ o. lt-ltb (j + 2) h (omega (arith, o.1))) refl
-        (cell_bytes w h i j p q).above-byte
+        (cell_bytes w h i j p q).above_byte
 
     pub cell_joined : {k l m n : List ℕ} → Searched outline w h k → JoinsEdge up down k l → JoinsEdge down beside l m →
         JoinsEdge down above m n → Joined (InCell i j) outline w h k n
@@ -227,12 +227,12 @@ module _ (outline : List ℕ) (w h : ℕ) where
   walk_on_triangles t o (step a b x d) u p e =
       ⊎_elim
       (λ (y : E a b). subst (λ (z : Triangle). Walk (Shared P) t z)
-      (byte_once w h y.second u y.shared.2.0 p (sym y.second-byte ∙ e))
+      (byte_once w h y.second u y.shared.2.0 p (sym y.second_byte ∙ e))
       (step y.first y.second (walk_on_triangles t o x y.first y.shared.1.0 y.first_byte)
       (inl y.shared)))
       (λ (y : E b a). subst (λ (z : Triangle). Walk (Shared P) t z)
       (byte_once w h y.first u y.shared.1.0 p (sym y.first_byte ∙ e))
-      (step y.second y.first (walk_on_triangles t o x y.second y.shared.2.0 y.second-byte)
+      (step y.second y.first (walk_on_triangles t o x y.second y.shared.2.0 y.second_byte)
       (inr y.shared)))
       d
 
@@ -286,7 +286,7 @@ module _ (outline : List ℕ) (w h : ℕ) where
         let ends = edge_ends a b e in (
           omega (arith, ends.0.0, s.room),
           omega (arith, ends.1.0, s.room),
-          subst (λ (x : ℕ × ℕ). SameRoot links x.0 x.1) (λ k. (sym e.first_byte k, sym e.second-byte k))
+          subst (λ (x : ℕ × ℕ). SameRoot links x.0 x.1) (λ k. (sym e.first_byte k, sym e.second_byte k))
               (all e.first e.second tt e.shared),
         )
 

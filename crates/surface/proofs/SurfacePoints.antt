@@ -68,7 +68,7 @@ pub prepared : (net : List ℤ)
     (order_of (share 1024 w h p q))
 prepared net w h p q ek ec i x =
     let t = chosen 1024 w h p q in
-    (λ k. values_in (arranged (i.first-corner k) (i.second-corner k) (i.last-corner k)
+    (λ k. values_in (arranged (i.first_corner k) (i.second_corner k) (i.last_corner k)
     (reordered_controls (ek k) (ec k))) x)
     ∙ form_values t.down (order_of (share 1024 w h p q)) (corner_controls net w t) x
     ∙ loaded_form net w t t.down (order_of (share 1024 w h p q)) x

@@ -1,0 +1,48 @@
+-- `outline::search::connected_over` meets its contract: at first each byte links to itself, then all edges are joined,
+-- and then one root tells (`search_judged`).
+use mathlib.Core.Path.{sym, subst}
+use mathlib.Core.Bool.{Bool}
+use native.Mathlib.Omega.{arith}
+use lib.ListN.{length}
+use borrow.Author.Rules.{rules}
+use Rattle.graphs.specs.Walks.{Judged}
+use Rattle.outline.specs.Connected.{Connected}
+use Rattle.outline.specs.Search.{Searched}
+use Rattle.outline.proofs.Numbers.{few_triangles}
+use Rattle.outline.proofs.SearchLaws.{searched_first, searched_on, search_judged}
+use Rattle.outline.proofs.search.connected_over.Goals as goal
+use Rattle.outline.proofs.search.connected_over.Goals.{After-join_cells, After-link_self, Start}
+
+-- the links before the joins, and after them
+module _ (c : After-link_self) where
+  abbrev s₁ : Start
+  s₁ = c.before.before.before.before
+
+  first : Searched s₁.args.outline.now s₁.args.w s₁.args.h c.link_self.new.0
+  first =
+      let a = s₁.args in
+      searched_first a.outline.now a.w a.h (length a.links-1.now) s₁.requires.0 s₁.requires.1 s₁.requires.2
+      c.link_self.ensures
+
+module _ (c : After-join_cells) where
+  abbrev before_joins : After-link_self
+  before_joins = c.before.before.before.before
+
+  abbrev s₂ : Start
+  s₂ = s₁ before_joins
+
+  last : Searched s₂.args.outline.now s₂.args.w s₂.args.h c.join_Cells.new.1.1.1.0
+  last =
+      let a = s₂.args in
+      searched_on a.outline.now a.w a.h (first before_joins) c.join_Cells.ensures.grown
+
+pub join_cells-requires : goal.join_cells-requires
+join_cells-requires c = first c.before.before.before
+
+pub returns : goal.returns
+returns c =
+    let joined = c.before.before.before.before in
+    let a = (s₂ joined).args in
+    subst (λ (b : Bool). Judged (Connected a.outline.now a.w a.h) b) (sym c.one_root.ensures)
+    (search_judged a.outline.now a.w a.h joined.join_Cells.new.1.1.1.0 (last joined)
+    joined.join_Cells.ensures.joined)

@@ -1,0 +1,31 @@
+-- `outline::search::one_root` meets its contract: the loop has counted the roots before t.
+use mathlib.Core.Path.{◌≡◌, refl, sym, ap, ◌∙◌}
+use mathlib.Core.Bool.{Bool, true, false}
+use Prim.Native.Nat.{ℕ, ◌-◌, ◌≤◌}
+use native.Mathlib.Omega.{arith}
+use lib.Dec.{eqb}
+use lib.ListN.{length}
+use mir.Val.{bool_byte}
+use borrow.Author.Rules.{rules}
+use Rattle.graphs.specs.Links.{bit}
+use Rattle.outline.specs.Search.{is_root, roots}
+use Rattle.graphs.proofs.LinkLaws.{count_start, count_more}
+use Rattle.outline.proofs.search.one_root.Goals as goal
+
+-- a test that is added as a number
+bit_small : (b : Bool) → (bool_byte b ≡ bit b) × (bit b ≤ 1)
+bit_small true = (refl, omega arith)
+bit_small false = (refl, omega arith)
+
+pub loop-t-init : goal.loop-t-init
+loop-t-init c = (omega arith, sym (count_start (is_root c.args.outline.now c.args.links.now)), omega arith)
+
+pub loop-t-preserved : goal.loop-t-preserved
+loop-t-preserved c =
+    let at = c.before.before.before in
+    let f = is_root at.args.outline.now at.args.links.now in
+    let t = at.loop-t.t in (
+      omega arith,
+      omega (arith, at.loop-t.invariant.1, count_more t f, bit_small (f t)),
+      omega (arith, at.loop-t.invariant.2, bit_small (f t)),
+    )
