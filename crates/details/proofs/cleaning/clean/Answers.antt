@@ -25,7 +25,7 @@ result s =
 -- nothing is refused
 module _ (c : Then-refusal-eq0) where
   abbrev start : Start
-  start = c.before.before
+  start = (goal.at.Then-refusal-eq0 c).Start
 
   none : refusal start ≡ 0
   none = sym c.clean_refusal-refusal.ensures ∙ c.if-refusal-eq0.true
@@ -36,7 +36,7 @@ module _ (c : Then-refusal-eq0) where
 pub returns-then-refusal-eq0 : goal.returns-then-refusal-eq0
 unfolding cleaned_details
 returns-then-refusal-eq0 c =
-    let e = c.before.before in
+    let e = (goal.at.returns-then-refusal-eq0 c).Then-refusal-eq0 in
     let s = start e in record {
       result_value = carried_out (refusal s) (none e);
       details_after = c.clean_first.ensures ∙ when_accepted (refusal s) (result s) s.args.details.now (none e);

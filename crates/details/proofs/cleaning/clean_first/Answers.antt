@@ -36,7 +36,7 @@ loop-i-init c = (omega arith, refl, refl)
 
 pub loop-i-preserved : goal.loop-i-preserved
 loop-i-preserved c =
-    let at = c.before.before.before in
+    let at = c in
     let old = at.args.details.now in
     let f = cleaned at.args.t in
     let i = at.loop-i.i in

@@ -15,7 +15,7 @@ use Rattle.details.proofs.ranges.first_outside.Goals as goal
 pub loop-i-preserved : goal.loop-i-preserved
 loop-i-preserved c =
     let at = c.loop-i in
-    let s = c.before.before.before.before in
+    let s = c in
     let numbers = s.args.numbers.now in
     let limit = s.args.limit in
     let z = get_or numbers at.i (pos 0) in

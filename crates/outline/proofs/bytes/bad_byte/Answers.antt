@@ -11,6 +11,6 @@ use Rattle.outline.proofs.bytes.bad_byte.Goals as goal
 pub returns : goal.returns
 unfolding bad_byte
 returns c =
-    let s = c.before.before.before.before in
+    let s = c in
     c.any_above_one.ensures
     ∙ ap (λ (n : ℕ). any_above_one (take n s.args.outline.now)) c.count_triangles-n.ensures

@@ -16,33 +16,33 @@ use Rattle.outline.proofs.search.connected_over.Goals.{After-join_cells, After-l
 -- the links before the joins, and after them
 module _ (c : After-link_self) where
   abbrev s₁ : Start
-  s₁ = c.before.before.before.before
+  s₁ = (goal.at.After-link_self c).Start
 
-  first : Searched s₁.args.outline.now s₁.args.w s₁.args.h c.link_self.new.0
+  first : Searched s₁.args.outline.now s₁.args.w s₁.args.h c.link_self.new.links
   first =
       let a = s₁.args in
-      searched_first a.outline.now a.w a.h (length a.links-1.now) s₁.requires.0 s₁.requires.1 s₁.requires.2
+      searched_first a.outline.now a.w a.h (length a.links.now) s₁.requires.0 s₁.requires.1 s₁.requires.2
       c.link_self.ensures
 
 module _ (c : After-join_cells) where
   abbrev before_joins : After-link_self
-  before_joins = c.before.before.before.before
+  before_joins = (goal.at.After-join_cells c).After-link_self
 
   abbrev s₂ : Start
   s₂ = s₁ before_joins
 
-  last : Searched s₂.args.outline.now s₂.args.w s₂.args.h c.join_Cells.new.1.1.1.0
+  last : Searched s₂.args.outline.now s₂.args.w s₂.args.h c.join_cells.new.links
   last =
       let a = s₂.args in
-      searched_on a.outline.now a.w a.h (first before_joins) c.join_Cells.ensures.grown
+      searched_on a.outline.now a.w a.h (first before_joins) c.join_cells.ensures.grown
 
 pub join_cells-requires : goal.join_cells-requires
-join_cells-requires c = first c.before.before.before
+join_cells-requires c = first (goal.at.join_cells-requires c).After-link_self
 
 pub returns : goal.returns
 returns c =
-    let joined = c.before.before.before.before in
+    let joined = (goal.at.returns c).After-join_cells in
     let a = (s₂ joined).args in
     subst (λ (b : Bool). Judged (Connected a.outline.now a.w a.h) b) (sym c.one_root.ensures)
-    (search_judged a.outline.now a.w a.h joined.join_Cells.new.1.1.1.0 (last joined)
-    joined.join_Cells.ensures.joined)
+    (search_judged a.outline.now a.w a.h joined.join_cells.new.links (last joined)
+    joined.join_cells.ensures.joined)

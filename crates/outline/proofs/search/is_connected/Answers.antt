@@ -15,7 +15,7 @@ use Rattle.outline.proofs.search.is_connected.Goals.{After-count_triangles-n, St
 -- the part of the search that is lent has one number a triangle
 module _ (c : After-count_triangles-n) where
   abbrev begun : Start
-  begun = c.before.before.before
+  begun = (goal.at.After-count_triangles-n c).Start
 
   abbrev n : ℕ
   n = c.count_triangles-n.result
@@ -28,17 +28,17 @@ module _ (c : After-count_triangles-n) where
 
 pub returns : goal.returns
 returns c =
-    let call = c.before.before in
-    let k = call.before.before in
+    let call = c in
+    let k = (goal.at.returns c).After-count_triangles-n in
     let s = begun k in
     let e = k.count_triangles-n.ensures in
-    let links = call.connected_over.new.1.1.1.0 in
-    let long : length links ≡ length (take (n k) (old k)) = search rules in (
-      judged_once call.connected_over.ensures
-          (connected_judged s.args.outline.now s.args.w s.args.h),
-      (
+    let links = call.connected_over.new.links in
+    let long : length links ≡ length (take (n k) (old k)) = search rules in record {
+      value = judged_once call.connected_over.ensures
+          (connected_judged s.args.outline.now s.args.w s.args.h);
+      unchanged_from = (
         length_front (old k) links (n k) long,
         drop_at links (drop (n k) (old k)) (triangles s.args.w s.args.h) (long ∙ room k ∙ e)
             ∙ ap (λ (m : ℕ). drop m (old k)) e,
-      ),
-    )
+      );
+    }

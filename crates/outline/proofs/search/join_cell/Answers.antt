@@ -42,49 +42,49 @@ module _ (s : Start) where
 -- what each join has done, and what is known after it
 module _ (c : After-join_present) where
   abbrev s₁ : Start
-  s₁ = c.before.before.before.before
+  s₁ = (goal.at.After-join_present c).Start
 
   own : JoinsEdge (outline s₁) (w s₁) (h s₁) (triangle_at (i s₁) (j s₁) false) (triangle_at (i s₁) (j s₁) true)
-      s₁.args.links.now c.join_present.new.1.0
+      s₁.args.links.now c.join_present.new.links
   own =
       own_joined (outline s₁) (w s₁) (h s₁) (i s₁) (j s₁) s₁.requires.1 s₁.requires.2 s₁.requires.0
       c.join_present.ensures
 
-  after_own : Searched (outline s₁) (w s₁) (h s₁) c.join_present.new.1.0
+  after_own : Searched (outline s₁) (w s₁) (h s₁) c.join_present.new.links
   after_own = searched_on (outline s₁) (w s₁) (h s₁) s₁.requires.0 own.0
 
 module _ (c : After-join_present-2) where
   abbrev before_beside : After-join_present
-  before_beside = c.before.before.before.before
+  before_beside = (goal.at.After-join_present-2 c).After-join_present
 
   abbrev s₂ : Start
   s₂ = s₁ before_beside
 
   beside : JoinsEdge (outline s₂) (w s₂) (h s₂) (triangle_at (i s₂) (j s₂) true) (triangle_at (i s₂ + 1) (j s₂) false)
-      before_beside.join_present.last.1.0 c.join_present-2.new.1.0
+      before_beside.join_present.new.links c.join_present-2.new.links
   beside =
       beside_joined (outline s₂) (w s₂) (h s₂) (i s₂) (j s₂) s₂.requires.1 s₂.requires.2 (after_own before_beside)
       c.join_present-2.ensures
 
-  after_beside : Searched (outline s₂) (w s₂) (h s₂) c.join_present-2.new.1.0
+  after_beside : Searched (outline s₂) (w s₂) (h s₂) c.join_present-2.new.links
   after_beside = searched_on (outline s₂) (w s₂) (h s₂) (after_own before_beside) beside.0
 
 pub join_present-requires-2 : goal.join_present-requires-2
 join_present-requires-2 c =
-    let joined = c.before.before.before in
+    let joined = (goal.at.join_present-requires-2 c).After-join_present in
     let s = s₁ joined in
     can_join (outline s) (w s) (h s) (after_own joined) (λ e. ((bytes s).own, (bytes s).beside e))
 
 pub join_present-requires-3 : goal.join_present-requires-3
 join_present-requires-3 c =
-    let joined = c.before.before.before in
+    let joined = (goal.at.join_present-requires-3 c).After-join_present-2 in
     let s = s₂ joined in
     can_join (outline s) (w s) (h s) (after_beside joined) (λ e. ((bytes s).own, (bytes s).above e))
 
 pub returns : goal.returns
 returns c =
-    let joined = c.before.before in
-    let beside_done = joined.before.before.before.before in
+    let joined = c in
+    let beside_done = (goal.at.returns c).After-join_present-2 in
     let own_done = before_beside beside_done in
     let s = s₂ beside_done in
     cell_joined (outline s) (w s) (h s) (i s) (j s) s.requires.1 s.requires.2 s.requires.0 (own own_done)

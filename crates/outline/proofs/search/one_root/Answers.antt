@@ -22,7 +22,7 @@ loop-t-init c = (omega arith, sym (count_start (is_root c.args.outline.now c.arg
 
 pub loop-t-preserved : goal.loop-t-preserved
 loop-t-preserved c =
-    let at = c.before.before.before in
+    let at = c in
     let f = is_root at.args.outline.now at.args.links.now in
     let t = at.loop-t.t in (
       omega arith,

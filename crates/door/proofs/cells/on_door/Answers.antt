@@ -1,0 +1,73 @@
+-- `door::cells::on_door` meets its contract: the four cells tell whether the place is on the door.
+use mathlib.Core.Path.{◌≡◌}
+use mathlib.Core.Bool.{false}
+use mathlib.Core.List.{List}
+use Prim.Native.Nat.{ℕ, ◌/◌, ◌≤◌}
+use native.Mathlib.Omega.{arith}
+use native.Mathlib.Nat.{le_refl}
+use lib.ListN.{length}
+use borrow.Author.Rules.{rules}
+use Rattle.net.specs.Refusals.{bad_size}
+use Rattle.outline.specs.Outline.{triangles}
+use Rattle.door.specs.Cells.{Small}
+use Rattle.door.proofs.CellLaws.{small_cell, found_in_four}
+use Rattle.door.proofs.cells.on_door.Goals as goal
+use Rattle.door.proofs.cells.on_door.Goals.{After-previous-l, Start}
+
+-- with the columns i, k and the rows j, l known
+module _ (c : After-previous-l) where
+  abbrev start : Start
+  start = (goal.at.After-previous-l c).Start
+
+  abbrev bytes : List ℕ
+  bytes = start.args.outline.now
+
+  abbrev i : ℕ
+  i = start.args.p / start.args.d
+
+  abbrev j : ℕ
+  j = start.args.q / start.args.d
+
+  abbrev k : ℕ
+  k = c.previous-k.result
+
+  abbrev l : ℕ
+  l = c.previous-l.result
+
+  column_before : k ≤ i
+  column_before = omega (arith, c.previous-k.ensures)
+
+  row_before : l ≤ j
+  row_before = omega (arith, c.previous-l.ensures)
+
+  known : (m n : ℕ) → m ≤ i → n ≤ j →
+      (bad_size start.args.w start.args.h ≡ false)
+      × (triangles start.args.w start.args.h ≤ length bytes)
+      × Small start.args.d start.args.p start.args.q m n
+  known m n x y =
+      let a = start.args in
+      let e = start.requires in
+      (e.0, e.1, small_cell a.d a.w a.h a.p a.q m n e.0 e.3 e.4 x y)
+
+pub cell_has-left-requires : goal.cell_has-left-requires
+cell_has-left-requires c =
+    let s = (goal.at.cell_has-left-requires c).After-previous-l in
+    known s (k s) (j s) (column_before s) (le_refl (j s))
+
+pub cell_has-below-requires : goal.cell_has-below-requires
+cell_has-below-requires c =
+    let s = (goal.at.cell_has-below-requires c).After-previous-l in
+    known s (i s) (l s) (le_refl (i s)) (row_before s)
+
+pub cell_has-both-requires : goal.cell_has-both-requires
+cell_has-both-requires c =
+    let s = (goal.at.cell_has-both-requires c).After-previous-l in
+    known s (k s) (l s) (column_before s) (row_before s)
+
+pub returns : goal.returns
+returns c =
+    let s = (goal.at.returns c).After-previous-l in
+    let a = (start s).args in
+    found_in_four a.d (bytes s) a.w a.h a.p a.q (start s).requires.0 (start s).requires.2
+    s.previous-k.ensures s.previous-l.ensures c.cell_has-here.ensures
+    c.cell_has-left.ensures c.cell_has-below.ensures c.cell_has-both.ensures
