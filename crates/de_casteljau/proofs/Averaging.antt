@@ -165,7 +165,7 @@ abbrev pub held : ℤ → ℤ
 held z = to_z w64 (of_z w64 z)
 
 held_is : (z : ℤ) → nat_abs z ≤ 2 ^ 48 → held z ≡ z
-held_is z h = to_z-of_z (fits_of_size h tt)
+held_is z h = to_z-of_z {w = w64} (fits_of_size {w = w64} h tt)
 
 pub held_within : (x y z : ℤ) → Within (2 ^ 48) (x ∷ y ∷ z ∷ []) → Within (2 ^ 48) (held x ∷ held y ∷ held z ∷ [])
 held_within x y z h =

@@ -1,0 +1,30 @@
+-- `steps::steps::few_steps` meets its contract.
+use mathlib.Core.Path.{◌≡◌, ap, subst, ◌∙◌}
+use mathlib.Core.List.{List}
+use Prim.Native.Nat.{ℕ, ◌*◌, ◌≤◌, ◌-◌}
+use native.Mathlib.Omega.{arith}
+use lib.IntN.{ℤ}
+use lib.ListN.{length, length-take, take}
+use borrow.Author.Rules.{rules}
+use borrow.Author.Tests.{ltb-false}
+use Rattle.exact.specs.Filling.{over}
+use Rattle.net.specs.Net.{numbers}
+use Rattle.net.proofs.Places.{good_size, few_vertices}
+use Rattle.steps.specs.RefinedNet.{refined_net, numbers_after}
+use Rattle.steps.specs.Steps.{Depth}
+use Rattle.steps.proofs.StepLaws.{copied}
+use Rattle.steps.proofs.steps.few_steps.Goals as goal
+use Rattle.steps.proofs.steps.few_steps.Goals.{Start}
+
+long : (s : Start) → numbers s.args.w s.args.h ≤ length s.args.net.now
+long s = ltb-false _ _ s.requires.2.long
+
+pub returns-then-k-eq0 : goal.returns-then-k-eq0
+returns-then-k-eq0 c =
+    let s = (goal.at.returns-then-k-eq0 c).Start in
+    let whole : numbers s.args.w s.args.h - 0 ≡ numbers s.args.w s.args.h = omega arith in
+    c.copy_over.ensures
+    ∙ (λ t. over (take (whole t) s.args.net.now) s.args.out.now)
+    ∙ ap (λ (l : List ℤ). over l s.args.out.now)
+    (copied s.args.net.now s.args.w s.args.h s.args.k c.if-k-eq0.true
+    (long s))

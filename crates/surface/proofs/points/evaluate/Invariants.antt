@@ -1,0 +1,29 @@
+-- `surface::points::evaluate` meets its contract: each iteration stores one coordinate more.
+use mathlib.Core.Bool.{Bool}
+use mathlib.Core.Path.{◌≡◌, refl, sym, ◌∙◌, ap}
+use mathlib.Core.List.{List, [], ◌∷◌}
+use Prim.Native.Nat.{ℕ, ◌-◌, ◌≤◌}
+use native.Mathlib.Nat.{mul-one}
+use native.Mathlib.Omega.{arith}
+use lib.IntN.{ℤ, pos}
+use lib.ListN.{length, get_or, set}
+use lib.Seq.{sets}
+use mir.Syntax.{w32}
+use borrow.Author.Rules.{rules}
+use Rattle.exact.specs.Filling.{over, runs}
+use Rattle.exact.proofs.FillingLaws.{over_none, over_more}
+use Rattle.exact.proofs.SignedCode.{reads_as}
+use Rattle.surface.specs.Evaluation.{evaluated}
+use Rattle.surface.proofs.points.evaluate.Given as goal
+
+-- a coordinate, as a run
+abbrev pub single : Bool → ℕ → ℕ → ℕ → List (List (List ℤ)) → ℕ → List ℤ
+single ahead a b g c x = evaluated ahead a b g c x ∷ []
+
+abbrev pub invariant-loop-i : goal.invariant-loop-i
+invariant-loop-i l =
+    (l.i ≤ 3) × (length l.point ≡ 3) × (l.point ≡ over (runs l.i (single l.ahead l.a l.b l.g l.c)) l.initial.point)
+
+abbrev pub decreases-loop-i : goal.decreases-loop-i
+decreases-loop-i l =
+    3 - l.i
