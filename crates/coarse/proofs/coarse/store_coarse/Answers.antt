@@ -15,8 +15,7 @@ use Rattle.net.proofs.Grids.{row_length}
 use Rattle.steps.specs.RefinedNet.{vertex_run, row_run}
 use Rattle.coarse.specs.Coarse.{coarse_side, coarse_fields}
 use Rattle.coarse.proofs.CoarseLaws.{coarse_by_rows, small_sides}
-use Rattle.coarse.proofs.coarse.store_coarse.Statement.{statement}
-use Rattle.coarse.proofs.coarse.store_coarse.Tie as tie
+use Rattle.coarse.proofs.coarse.store_coarse.Goals as goal
 
 -- row j, stored where the rows before it end
 next_row : (net : List ℤ) (w h j : ℕ) (old out : List ℤ) → j < coarse_side h →
@@ -35,68 +34,27 @@ next_row net w h j old out below roomy e =
     (λ t. sets (e t) (place t) (row_run F wide j))
     ∙ over_more old j (wide * stride) (row_run F wide) (λ m h. row_length stride (vertex_run F) (λ v. refl) wide m) fits
 
-abbrev invariant_loop : tie.invariant-loop
-invariant_loop net w h coarse₀ high j₀ coarse j =
-    (j ≤ high) × (length coarse ≡ length coarse₀)
-    × (coarse ≡ over (runs j (row_run (coarse_fields net w) (coarse_side w))) coarse₀)
+pub loop-j-init : goal.loop-j-init
+loop-j-init c = (omega arith, refl, over_none _ _)
 
-abbrev decreases_loop : tie.decreases-loop
-decreases_loop net w h coarse₀ high j₀ coarse j = high - j
-
-add-high : tie.Need-overflow-add-high invariant_loop decreases_loop
-add-high c = omega (arith, (small_sides c.args.w c.args.h c.requires.0.size).low)
-
-loop-holds : tie.Need-loop-init invariant_loop decreases_loop
-loop-holds c = (omega arith, refl, over_none _ _)
-
-store-coarse-row-requires : tie.Need-store-coarse-row-requires invariant_loop decreases_loop
-store-coarse-row-requires c κs =
-    let k = c.before in
-    let s = k.before.before in
-    (s.requires.0, k.loop-test.true, omega (arith, s.requires.1, k.before.loop.invariant.1))
-
-add-j : tie.Need-overflow-add-j invariant_loop decreases_loop
-add-j c = search rules
-
-loop-less : tie.Need-loop-smaller invariant_loop decreases_loop
-loop-less c = search rules
-
-loop-again : tie.Need-loop-preserved invariant_loop decreases_loop
-loop-again c =
-    let k = c.before.before.before in
-    let s = k.before.before in
+pub loop-j-preserved : goal.loop-j-preserved
+loop-j-preserved c =
+    let k = c in
+    let s = c in
     let a = s.args in
-    let at = k.before.loop in (
+    let at = k.loop-j in (
       search rules,
       search rules,
-      c.before.store-coarse-row.ensures
-          ∙ next_row a.net.now a.w a.h at.j a.coarse.now at.coarse k.loop-test.true s.requires.1
+      c.store_coarse_row.ensures
+          ∙ next_row a.net.now a.w a.h at.j a.coarse.now at.coarse k.loop-j-test.true s.requires.1
           at.invariant.2,
     )
 
-same_length : tie.Need-same-length invariant_loop decreases_loop
-same_length c = search rules
-
-returns : tie.Need-returns invariant_loop decreases_loop
+pub returns : goal.returns
 returns c =
-    let a = c.before.before.args in
+    let a = c.args in
     let row = row_run (coarse_fields a.net.now a.w) (coarse_side a.w) in
-    let all : c.before.loop.j ≡ coarse_side a.h = omega arith in
-    c.before.loop.invariant.2
+    let all : c.loop-j.j ≡ coarse_side a.h = omega arith in
+    c.loop-j.invariant.2
     ∙ ap (λ (n : ℕ). over (runs n row) a.coarse.now) all
     ∙ ap (λ (l : List ℤ). over l a.coarse.now) (sym (coarse_by_rows a.net.now a.w a.h))
-
-pub store_coarse_spec : {M : Type 1} → statement M
-store_coarse_spec =
-    tie.close
-    (tie.spec
-    invariant_loop
-    decreases_loop
-    add-high
-    loop-holds
-    store-coarse-row-requires
-    add-j
-    loop-less
-    loop-again
-    same_length
-    returns)

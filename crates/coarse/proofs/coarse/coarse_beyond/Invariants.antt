@@ -1,0 +1,22 @@
+-- `coarse::coarse::coarse_beyond` meets its contract: what was found is whether a number of a row before j is beyond
+-- the range.
+use mathlib.Core.Path.{◌≡◌, refl, sym, ap, ◌∙◌}
+use mathlib.Core.Bool.{◌||◌}
+use Prim.Native.Nat.{ℕ, ◌-◌, ◌≤◌}
+use native.Mathlib.Omega.{arith}
+use borrow.Author.Rules.{rules}
+use Rattle.exact.specs.Filling.{runs}
+use Rattle.net.specs.Refusals.{net_limit, any_beyond}
+use Rattle.steps.specs.RefinedNet.{row_run}
+use Rattle.coarse.specs.Coarse.{coarse_side, coarse_fields}
+use Rattle.net.proofs.Ranges.{any_collected}
+use Rattle.coarse.proofs.CoarseLaws.{rows_tested, small_sides}
+use Rattle.coarse.proofs.coarse.coarse_beyond.Given as goal
+
+abbrev pub invariant-loop-j : goal.invariant-loop-j
+invariant-loop-j l =
+    (l.j ≤ l.high) × (l.bad ≡ any_beyond (runs l.j (row_run (coarse_fields l.net l.w) (coarse_side l.w))))
+
+abbrev pub decreases-loop-j : goal.decreases-loop-j
+decreases-loop-j l =
+    l.high - l.j
