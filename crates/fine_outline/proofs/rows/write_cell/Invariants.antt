@@ -1,0 +1,26 @@
+-- `fine_outline::rows::write_cell` meets its contract: each iteration stores one byte more.
+use mathlib.Core.Path.{◌≡◌, refl, sym, ap, ◌∙◌}
+use mathlib.Core.Bool.{cond}
+use mathlib.Core.List.{List, [], ◌∷◌}
+use Prim.Native.Nat.{ℕ, ◌+◌, ◌-◌, ◌*◌, ◌/◌, ◌%◌, ◌≤◌}
+use native.Mathlib.Nat.{mul-one}
+use native.Mathlib.Omega.{arith}
+use lib.Dec.{leb}
+use lib.ListN.{length, set}
+use lib.Seq.{sets}
+use borrow.Author.Rules.{rules}
+use Rattle.exact.specs.Filling.{runs}
+use Rattle.exact.proofs.FillingLaws.{runs_none, runs_more}
+use Rattle.fine_outline.proofs.rows.write_cell.Given as goal
+
+-- the byte of place n
+abbrev pub byte_at : ℕ → ℕ → ℕ → ℕ → ℕ → List ℕ
+byte_at up down s g n = cond (leb s (n / 2 + g + n % 2)) down up ∷ []
+
+abbrev pub invariant-loop-n : goal.invariant-loop-n
+invariant-loop-n l =
+    (l.n ≤ 2 * l.s) × (length l.fine ≡ length l.initial.fine) × (l.fine ≡ sets l.initial.fine l.at (runs l.n (byte_at l.up l.down l.s l.g)))
+
+abbrev pub decreases-loop-n : goal.decreases-loop-n
+decreases-loop-n l =
+    2 * l.s - l.n

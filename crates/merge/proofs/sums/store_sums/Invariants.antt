@@ -1,0 +1,30 @@
+-- `merge::sums::store_sums` meets its contract.
+use mathlib.Core.Path.{◌≡◌, refl, ap, ◌∙◌}
+use mathlib.Core.List.{List}
+use Prim.Native.Nat.{ℕ, ◌+◌, ◌-◌, ◌*◌, ◌≤◌}
+use native.Mathlib.Nat.{mul_comm, mul-le-mul}
+use native.Mathlib.Omega.{arith}
+use lib.IntN.{ℤ}
+use lib.ListN.{length}
+use lib.Seq.{sets}
+use borrow.Author.Rules.{rules}
+use Rattle.exact.specs.Filling.{runs}
+use Rattle.exact.proofs.FillingLaws.{runs_none, runs_more}
+use Rattle.net.specs.Net.{vertex_at, stride}
+use Rattle.net.proofs.Places.{GoodSize, good_size, vertex_ends}
+use Rattle.steps.specs.RefinedNet.{vertex_run}
+use Rattle.steps.proofs.RefinedVertices.{stored_triangle}
+use Rattle.merge.specs.Merge.{row_sums}
+use Rattle.merge.proofs.sums.store_sums.Given as goal
+
+-- the sums of column i
+abbrev pub sums_at : List ℤ → List ℤ → ℕ → ℕ → ℕ → List ℤ
+sums_at row details w j i = vertex_run (row_sums row details w) (vertex_at i j)
+
+abbrev pub invariant-loop-i : goal.invariant-loop-i
+invariant-loop-i l =
+    (l.i ≤ l.w) × (length l.out ≡ length l.initial.out) × (l.out ≡ sets l.initial.out l.at (runs l.i (sums_at l.row l.details l.w l.j)))
+
+abbrev pub decreases-loop-i : goal.decreases-loop-i
+decreases-loop-i l =
+    l.w - l.i

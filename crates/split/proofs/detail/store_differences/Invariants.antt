@@ -1,0 +1,32 @@
+-- `split::detail::store_differences` meets its contract.
+use mathlib.Core.Path.{◌≡◌, refl, sym, ap, ◌∙◌}
+use mathlib.Core.List.{List}
+use Prim.Native.Nat.{ℕ, ◌+◌, ◌-◌, ◌*◌, ◌≤◌}
+use native.Mathlib.Nat.{mul_assoc, mul_comm, mul-le-mul, le_refl}
+use native.Mathlib.Omega.{arith}
+use lib.IntN.{ℤ}
+use lib.ListN.{length}
+use lib.Seq.{sets}
+use borrow.Author.Rules.{rules}
+use Rattle.exact.specs.Filling.{over, runs}
+use Rattle.exact.proofs.FillingLaws.{over_none, over_more}
+use Rattle.net.specs.Net.{Field, field, grid, grid_row}
+use Rattle.net.proofs.Grids.{row_length}
+use Rattle.net.proofs.Places.{good_size}
+use Rattle.details.specs.Details.{detail_stride, detail_run, stored_details}
+use Rattle.coarse.specs.Coarse.{coarse_side}
+use Rattle.split.specs.Split.{detail_of}
+use Rattle.split.proofs.detail.store_differences.Given as goal
+
+-- the details of row j
+abbrev pub details_on : List ℤ → List ℤ → ℕ → ℕ → List ℤ
+details_on net coarse w = grid_row (detail_run (λ x. detail_of (field net w x) (field coarse (coarse_side w) x))) w
+
+abbrev pub invariant-loop-j : goal.invariant-loop-j
+invariant-loop-j l =
+    (l.j ≤ l.h) × (length l.details ≡ length l.initial.details) × (length l.row ≡ 9225)
+    × (l.details ≡ over (runs l.j (details_on l.net l.coarse l.w)) l.initial.details)
+
+abbrev pub decreases-loop-j : goal.decreases-loop-j
+decreases-loop-j l =
+    l.h - l.j

@@ -1,0 +1,38 @@
+-- `split::detail::store_row_details` meets its contract.
+use mathlib.Core.Path.{◌≡◌, refl, ap, ◌∙◌}
+use mathlib.Core.List.{List}
+use Prim.Native.Nat.{ℕ, ◌+◌, ◌-◌, ◌*◌, ◌≤◌}
+use native.Mathlib.Nat.{mul_comm, mul-le-mul}
+use native.Mathlib.Omega.{arith}
+use lib.IntN.{ℤ}
+use lib.ListN.{length}
+use lib.Seq.{sets}
+use borrow.Author.Rules.{rules}
+use Rattle.exact.specs.Filling.{runs}
+use Rattle.exact.proofs.FillingLaws.{runs_none, runs_more}
+use Rattle.net.specs.Net.{vertex_at}
+use Rattle.net.proofs.Places.{GoodSize, good_size}
+use Rattle.details.specs.Details.{detail_stride, detail_run}
+use Rattle.details.proofs.DetailLaws.{detail_ends, stored_details_lem}
+use Rattle.split.specs.Split.{row_differences}
+use Rattle.split.proofs.detail.store_row_details.Invariants.{details_at}
+use Rattle.split.proofs.detail.store_row_details.Goals as goal
+
+pub loop-i-init : goal.loop-i-init
+loop-i-init c = (omega arith, refl, runs_none _ _ _)
+
+pub loop-i-preserved : goal.loop-i-preserved
+loop-i-preserved c =
+    let made = c in
+    let k = c in
+    let a = k.args in
+    let i = k.loop-i.i in
+    let at = detail_stride * (a.j * a.w) in
+    let D = row_differences a.net.now a.row.now a.w in (
+      search rules,
+      search rules,
+      c.store_details.ensures
+          ∙ stored_details_lem D (vertex_at i a.j) k.loop-i.details (at + detail_stride * i) made.vertex_differences-d.ensures
+          ∙ (λ t. sets (k.loop-i.invariant.2 t) (at + mul_comm detail_stride i t) (detail_run D (vertex_at i a.j)))
+          ∙ runs_more a.details.now at i detail_stride (details_at a.net.now a.row.now a.w a.j) (λ m h. refl),
+    )

@@ -1,0 +1,30 @@
+-- `split::detail::store_row_details` meets its contract.
+use mathlib.Core.Path.{◌≡◌, refl, ap, ◌∙◌}
+use mathlib.Core.List.{List}
+use Prim.Native.Nat.{ℕ, ◌+◌, ◌-◌, ◌*◌, ◌≤◌}
+use native.Mathlib.Nat.{mul_comm, mul-le-mul}
+use native.Mathlib.Omega.{arith}
+use lib.IntN.{ℤ}
+use lib.ListN.{length}
+use lib.Seq.{sets}
+use borrow.Author.Rules.{rules}
+use Rattle.exact.specs.Filling.{runs}
+use Rattle.exact.proofs.FillingLaws.{runs_none, runs_more}
+use Rattle.net.specs.Net.{vertex_at}
+use Rattle.net.proofs.Places.{GoodSize, good_size}
+use Rattle.details.specs.Details.{detail_stride, detail_run}
+use Rattle.details.proofs.DetailLaws.{detail_ends, stored_details_lem}
+use Rattle.split.specs.Split.{row_differences}
+use Rattle.split.proofs.detail.store_row_details.Given as goal
+
+-- the details of column i
+abbrev pub details_at : List ℤ → List ℤ → ℕ → ℕ → ℕ → List ℤ
+details_at net row w j i = detail_run (row_differences net row w) (vertex_at i j)
+
+abbrev pub invariant-loop-i : goal.invariant-loop-i
+invariant-loop-i l =
+    (l.i ≤ l.w) × (length l.details ≡ length l.initial.details) × (l.details ≡ sets l.initial.details l.at (runs l.i (details_at l.net l.row l.w l.j)))
+
+abbrev pub decreases-loop-i : goal.decreases-loop-i
+decreases-loop-i l =
+    l.w - l.i
