@@ -25,7 +25,7 @@ use Rattle.merge.specs.Answers.{merge_refusal_of, merge_output, MergeContract}
 use Rattle.merge.specs.declared.answers.MergeAnswer.{MergeAnswer}
 use Rattle.merge.specs.declared.answers.MergeAnswer.TheVariants as merge-answer
 use Rattle.multiresolution.specs.Promises.{coarse_left, details_left, MovedBelow}
-use Rattle.multiresolution.specs.Contracts.{round_trip_refusal, RoundTrip, cleaned_refusal, CleanedNet}
+use Rattle.multiresolution.specs.Calls.{round_trip_refusal, RoundTrip, cleaned_refusal, CleanedNet}
 use Rattle.multiresolution.proofs.RoundTrip.{untouched, merges_back, no_refusal, output_is, moved}
 
 -- a refusal's number is its own

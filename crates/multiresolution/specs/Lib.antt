@@ -1,5 +1,5 @@
 -- The statements about splitting, cleaning and merging one after the other, the contracts of the functions that
 -- do, and what those do not allow.
 pub mod Promises
-pub mod Contracts
+pub mod Calls
 pub mod NotClaimed

@@ -9,7 +9,7 @@ use Rattle.steps.specs.RefinedNet.{stored}
 use Rattle.coarse.specs.Coarse.{coarsened, coarse_net}
 use Rattle.merge.specs.declared.answers.MergeAnswer.TheVariants as answer
 use Rattle.multiresolution.specs.Promises.{MovedBelow}
-use Rattle.multiresolution.specs.Contracts.{flat, RoundTrip, CleanedNet}
+use Rattle.multiresolution.specs.Calls.{flat, RoundTrip, CleanedNet}
 
 -- a net of one vertex whose last number, z of c3, is moved by 7 has not moved below 7
 abbrev nine : List ℤ

@@ -6,7 +6,7 @@ ghost use Rattle.details.specs.Cleaning.{clean_output};
 ghost use Rattle.coarse.specs.Coarse.{coarse_side};
 ghost use Rattle.split.specs.Refusals.{odd_faults};
 ghost use Rattle.merge.specs.Answers.{MergeContract};
-ghost use Rattle.multiresolution.specs.Contracts.{CleanedNet};
+ghost use Rattle.multiresolution.specs.Calls.{CleanedNet};
 
 use details::{clean, too_great};
 use merge::{MergeAnswer, merge};

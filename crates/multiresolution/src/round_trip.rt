@@ -1,5 +1,5 @@
 // Splitting and merging in one go: the round trip, held to by the code itself.
-ghost use Rattle.multiresolution.specs.Contracts.{RoundTrip};
+ghost use Rattle.multiresolution.specs.Calls.{RoundTrip};
 
 use merge::{MergeAnswer, merge};
 use net::too_short_for;

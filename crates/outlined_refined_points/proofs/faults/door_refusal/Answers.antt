@@ -1,0 +1,54 @@
+-- `outlined_refined_points::faults::door_refusal` meets its contract: each branch is the first fault that is there.
+use mathlib.Core.Path.{◌≡◌, refl, sym, ap, ◌∙◌}
+use mathlib.Core.Bool.{not}
+use mathlib.Core.List.{List, [], ◌∷◌}
+use Prim.Native.Nat.{ℕ}
+use native.Mathlib.Omega.{arith}
+use lib.Dec.{lit<}
+use borrow.Author.Rules.{rules}
+use borrow.Author.Tests.{ltb-false}
+use Rattle.net.specs.Refusals.{Fault, short_net}
+use Rattle.net.proofs.Faults.{Clear, none_clear, or_none, cond_true, cond_false, fault_before, fault_after}
+use Rattle.places.specs.Refusals.{no_place}
+use Rattle.outline.specs.Refusals.{short_outline, outlined_faults}
+use Rattle.door.specs.Door.{on_door}
+use Rattle.steps.specs.Steps.{Depth}
+use Rattle.bounds.specs.DemandThree.{fine_edge}
+use Rattle.refine.proofs.Depths.{good_depth}
+use Rattle.refined_points.proofs.EdgeCounts.{edge_bounds, same_grid}
+use Rattle.outlined_refined_points.specs.Refusals.{off_door}
+use Rattle.outlined_refined_points.proofs.faults.door_refusal.Goals as goal
+use Rattle.outlined_refined_points.proofs.faults.door_refusal.Goals.{Else-refusal-ne0, Start}
+
+module _ (s : Start) where
+  abbrev given : List Fault
+  given = outlined_faults s.args.net.now s.args.w s.args.h s.args.outline.now
+
+  abbrev of_door : List Fault
+  of_door = (off_door s.args.k s.args.outline.now s.args.w s.args.h s.args.p s.args.q, 15) ∷ []
+
+  depth : Depth s.args.w s.args.h s.args.k
+  depth = good_depth s.args.w s.args.h s.args.k s.requires.0 s.requires.1
+
+-- 2 and 13 do not refuse
+clear : (c : Else-refusal-ne0) → Clear (given (goal.at.Else-refusal-ne0 c).Start)
+clear c =
+    none_clear (given (goal.at.Else-refusal-ne0 c).Start) (lit< tt, (lit< tt, tt))
+    (sym c.outlined_refusal-refusal.ensures ∙ c.if-refusal-ne0.false)
+
+pub on_door-requires : goal.on_door-requires
+on_door-requires c =
+    let s = (goal.at.on_door-requires c).Start in
+    let a = s.args in
+    let d = depth s in
+    let k = clear (goal.at.on_door-requires c).Else-refusal-ne0 in
+    let bounds = edge_bounds a.k d.few in
+    let e = c.fine_edge.ensures in (
+      s.requires.0,
+      ltb-false _ _ (or_none (short_net a.net.now a.w a.h) (short_outline a.outline.now a.w a.h) k.0).1,
+      omega (arith, bounds.0, e),
+      omega (arith, bounds.1, e),
+      ap (λ (n : ℕ). no_place n a.w a.h a.p a.q) e
+          ∙ sym (same_grid a.w a.h a.k a.p a.q (omega (arith, d.wide)) (omega (arith, d.high)))
+          ∙ s.requires.2,
+    )

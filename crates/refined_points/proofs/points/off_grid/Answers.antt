@@ -1,0 +1,38 @@
+-- `refined_points::points::off_grid` meets its contract.
+use mathlib.Core.Path.{sym, ◌∙◌}
+use Prim.Native.Nat.{◌-◌, ◌*◌}
+use native.Mathlib.Omega.{arith}
+use lib.Dec.{ltb}
+use borrow.Author.Tests.{lt-ltb, le-ltb}
+use Rattle.net.proofs.Faults.{or_yes, or_no}
+use Rattle.subdivision.specs.Refinement.{side_after}
+use Rattle.steps.specs.Steps.{Depth}
+use Rattle.steps.proofs.Sides.{wide_ready, high_ready, side_grows}
+use Rattle.refine.proofs.Depths.{good_depth}
+use Rattle.refined_points.proofs.points.off_grid.Goals as goal
+use Rattle.refined_points.proofs.points.off_grid.Goals.{Start}
+
+depth : (c : Start) → Depth c.args.w c.args.h c.args.k
+depth c = good_depth c.args.w c.args.h c.args.k c.requires.0 c.requires.1
+
+pub overflow_sub-side_after : goal.overflow_sub-side_after
+overflow_sub-side_after c =
+    let g = depth (goal.at.overflow_sub-side_after c).Start in
+    omega (
+      arith,
+      c.side_after.ensures,
+      side_grows c.args.k c.args.w
+          (wide_ready g).0,
+      g.wide,
+    )
+
+pub overflow_sub-result : goal.overflow_sub-result
+overflow_sub-result c =
+    let g = depth (goal.at.overflow_sub-result c).Start in
+    omega (
+      arith,
+      c.side_after-2.ensures,
+      side_grows c.args.k
+          c.args.h (high_ready g).0,
+      g.high,
+    )
