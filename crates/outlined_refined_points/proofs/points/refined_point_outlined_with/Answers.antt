@@ -65,7 +65,7 @@ returns-then-refusal-ne0 c =
 pub is_connected-requires : goal.is_connected-requires
 is_connected-requires c =
     let r = (ready (goal.at.is_connected-requires c).Else-refusal-ne0).parts in
-    (r.size, r.bytes, r.search-1)
+    (r.size, r.bytes, r.search)
 
 pub returns-then-not-is_connected : goal.returns-then-not-is_connected
 returns-then-not-is_connected c =
@@ -74,7 +74,7 @@ returns-then-not-is_connected c =
     let s = begun e in
     let a = s.args in
     let apart = refused_apart a.net.now a.w a.h a.outline.now (before s) (numbered s) (none e)
-    (sym call.is_connected.ensures.value ∙ not-true call.is_connected.result c.if-not-is_connected.true) in
+    (sym call.is_connected.ensures.value ∙ c.if-not-is_connected.true) in
     refused_contract a.net.now a.w a.h a.k a.outline.now a.p a.q a.short a.out.now
     a.scratch.now a.fine.now a.search.now apart (λ z. omega (arith, z)) call.is_connected.new.search
     (search_free_lem (before s) a.w a.h a.search.now (none e) call.is_connected.new.search
@@ -91,10 +91,10 @@ returns c =
     let same = sym (plain_point_refusal a.net.now a.w a.h a.k a.outline.now a.p a.q a.out.now
     a.scratch.now a.fine.now a.search.now (ready e))
     ∙ refused_range a.net.now a.w a.h a.outline.now (before s) (numbered s) (none e)
-    (sym call.is_connected.ensures.value ∙ not-false call.is_connected.result decided.if-not-is_connected.false) in
+    (sym call.is_connected.ensures.value ∙ decided.if-not-is_connected.false) in
     let left = both.point_both.new in
     let searched = call.is_connected.new.search in
     plain_contract a.net.now a.w a.h a.k a.outline.now a.p a.q a.short a.out.now
-    a.scratch.now a.fine.now a.search.now left.1.1.1.1.1.1.1.0 left.1.1.1.1.1.1.1.1.0
-    left.1.1.1.1.1.1.1.1.1.0 searched same both.point_both.ensures.refined_point_contract both.point_both.ensures.fine_after
+    a.scratch.now a.fine.now a.search.now left.out left.scratch
+    left.fine searched same both.point_both.ensures.refined_point_contract both.point_both.ensures.fine_after
     (search_free_lem (before s) a.w a.h a.search.now (none e) searched call.is_connected.ensures.unchanged_from)
