@@ -67,4 +67,4 @@ returns-in-At c =
     both_answered a.net.now a.w a.h a.k a.l a.p a.q a.p2 a.q2 a.short a.out.now
     a.scratch.now a.out2.now a.scratch2.now (clear (else1 call)) (out2 call)
     (scratch2 call) (subst (Second call (short call)) e (second call)) first.result call.refined_point_with-second.result
-    first.new.out first.new.scratch first.ensures e c.join.ensures) in record { result_value = p.0; seam_left = p.1; seam_holds = p.2; }
+    first.new.out first.new.scratch first.ensures e c.join.ensures) in record { result_value = p.0; seam_left = p.1.0; seam_holds = p.1.1; }

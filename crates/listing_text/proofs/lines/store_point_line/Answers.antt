@@ -15,11 +15,11 @@ use Rattle.decimal.specs.Storing.{Stored}
 use Rattle.decimal.proofs.StoringLaws.{stored_as, stored_then, room_first, room_then}
 use Rattle.listing_text.specs.Listing.{point_line, space, line_end}
 use Rattle.listing_text.proofs.LineLaws.{point_parts}
-use Rattle.listing_text.proofs.lines.store_point_line.Statement.{statement}
-use Rattle.listing_text.proofs.lines.store_point_line.Tie as tie
+use Rattle.listing_text.proofs.lines.store_point_line.Goals as goal
+use Rattle.listing_text.proofs.lines.store_point_line.Goals.{After-store_count-a, After-store_count-b, After-store_number-c, After-store_number-d, Start}
 
 -- the parts as they are handed on, and the room for the first so many of them
-module _ (c : tie.Start) where
+module _ (c : Start) where
   abbrev x : ℤ
   x = to_z w32 (of_z w32 c.args.x)
 
@@ -69,77 +69,62 @@ module _ (c : tie.Start) where
   room_two = room_first 0 two (signed_decimal x ++ space) room_three
 
 -- what stands after each
-module _ (c : tie.After-store-count2) where
-  abbrev first : tie.After-store-count
-  first = c.before.before.before.before
+module _ (c : After-store_count-b) where
+  abbrev first : After-store_count-a
+  first = (goal.at.After-store_count-b c).After-store_count-a
 
-  abbrev start : tie.Start
+  abbrev start : Start
   start = first.before.before.before
 
-  stored_two : Stored (out start) 0 (two start) c.store-count2.new.1.1.1.0 c.store-count2.result
-  stored_two = stored_then first.store-count.ensures c.store-count2.ensures
+  stored_two : Stored (out start) 0 (two start) c.store_count-b.new.out c.store_count-b.result
+  stored_two = stored_then first.store_count-a.ensures c.store_count-b.ensures
 
-module _ (c : tie.After-store-number) where
-  abbrev second : tie.After-store-count2
-  second = c.before.before.before.before
+module _ (c : After-store_number-c) where
+  abbrev second : After-store_count-b
+  second = (goal.at.After-store_number-c c).After-store_count-b
 
-  stored_three : Stored (out (start second)) 0 (three (start second)) c.store-number.new.1.1.1.0
-      c.store-number.result
-  stored_three = stored_then (stored_two second) c.store-number.ensures
+  stored_three : Stored (out (start second)) 0 (three (start second)) c.store_number-c.new.out
+      c.store_number-c.result
+  stored_three = stored_then (stored_two second) c.store_number-c.ensures
 
-module _ (c : tie.After-store-number2) where
-  abbrev third : tie.After-store-number
-  third = c.before.before.before.before
+module _ (c : After-store_number-d) where
+  abbrev third : After-store_number-c
+  third = (goal.at.After-store_number-d c).After-store_number-c
 
-  stored_four : Stored (out (start (second third))) 0 (four (start (second third))) c.store-number2.new.1.1.1.0
-      c.store-number2.result
-  stored_four = stored_then (stored_three third) c.store-number2.ensures
+  stored_four : Stored (out (start (second third))) 0 (four (start (second third))) c.store_number-d.new.out
+      c.store_number-d.result
+  stored_four = stored_then (stored_three third) c.store_number-d.ensures
 
-store-count-requires : tie.Need-store-count-requires
-store-count-requires c κs =
-    let start = c.before.before in
+pub store_count-a-requires : goal.store_count-a-requires
+store_count-a-requires c =
+    let start = (goal.at.store_count-a-requires c).Start in
     room_first 0 (one start) (decimal start.args.j ++ space) (room_two start)
 
-store-count-requires-2 : tie.Need-store-count-requires-2
-store-count-requires-2 c κs =
-    let first = c.before.before.before in
-    let start = first.before.before.before in
-    room_then first.store-count.ensures (decimal start.args.j ++ space) (room_two start)
+pub store_count-b-requires : goal.store_count-b-requires
+store_count-b-requires c =
+    let first = c in
+    let start = (goal.at.store_count-b-requires c).Start in
+    room_then first.store_count-a.ensures (decimal start.args.j ++ space) (room_two start)
 
-store-number-requires : tie.Need-store-number-requires
-store-number-requires c κs =
-    let k = c.before.before.before in
+pub store_number-c-requires : goal.store_number-c-requires
+store_number-c-requires c =
+    let k = (goal.at.store_number-c-requires c).After-store_count-b in
     room_then (stored_two k) (signed_decimal (x (start k)) ++ space) (room_three (start k))
 
-store-number-requires-2 : tie.Need-store-number-requires-2
-store-number-requires-2 c κs =
-    let k = c.before.before.before in
+pub store_number-d-requires : goal.store_number-d-requires
+store_number-d-requires c =
+    let k = (goal.at.store_number-d-requires c).After-store_number-c in
     let s = start (second k) in
     room_then (stored_three k) (signed_decimal (y s) ++ space) (room_four s)
 
-store-number-requires-3 : tie.Need-store-number-requires-3
-store-number-requires-3 c κs =
-    let k = c.before.before.before in
+pub store_number-requires : goal.store_number-requires
+store_number-requires c =
+    let k = (goal.at.store_number-requires c).After-store_number-d in
     let s = start (second (third k)) in
     room_then (stored_four k) (last s) (room_five s)
 
-same_length : tie.Need-same-length
-same_length c = search rules
-
-returns : tie.Need-returns
+pub returns : goal.returns
 returns c =
-    let k = c.before.before.before.before.before.before in
-    stored_as (stored_then (stored_four k) c.before.before.store-number3.ensures)
+    let k = (goal.at.returns c).After-store_number-d in
+    stored_as (stored_then (stored_four k) c.store_number.ensures)
     (line (start (second (third k))))
-
-pub store_point_line_spec : {M : Type 1} → statement M
-store_point_line_spec =
-    tie.close
-    (tie.spec
-    store-count-requires
-    store-count-requires-2
-    store-number-requires
-    store-number-requires-2
-    store-number-requires-3
-    same_length
-    returns)

@@ -1,0 +1,26 @@
+-- `listing_text::pieces::list_pieces` meets its contract: each iteration collects one piece more.
+use mathlib.Core.Path.{◌≡◌, refl}
+use mathlib.Core.List.{List}
+use Prim.Native.Nat.{ℕ, ◌+◌, ◌-◌, ◌*◌, ◌≤◌, ◌<◌}
+use native.Mathlib.Nat.{le_refl}
+use native.Mathlib.Omega.{arith}
+use lib.ListN.{length}
+use borrow.Author.Rules.{rules}
+use borrow.Author.Tests.{leb-true, leb-false}
+use Rattle.exact.specs.Filling.{over}
+use Rattle.net.proofs.Places.{good_size, few_vertices}
+use Rattle.decimal.specs.Storing.{Stored}
+use Rattle.decimal.proofs.StoringLaws.{stored_as, stored_then, stored_line}
+use Rattle.listing_text.specs.Listing.{pieces_text, longest_line}
+use Rattle.listing_text.specs.Collected.{PiecesContract}
+use Rattle.listing_text.proofs.PieceLaws.{pieces_none, pieces_more}
+use Rattle.listing_text.proofs.pieces.list_pieces.Given as goal
+
+abbrev pub invariant-loop-next : goal.invariant-loop-next
+invariant-loop-next l =
+    (l.n ≤ l.next) × (l.next ≤ l.pieces) × (l.at ≤ longest_line * (l.next - l.n)) × (l.at ≤ length l.out) × (length l.out ≡ length l.initial.out)
+    × Stored l.initial.out 0 (pieces_text l.net l.w l.h l.n l.next) l.out l.at
+
+abbrev pub decreases-loop-next : goal.decreases-loop-next
+decreases-loop-next l =
+    l.pieces - l.next
