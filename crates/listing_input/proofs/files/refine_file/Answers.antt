@@ -12,42 +12,18 @@ use Rattle.reader.specs.Refusals.{read_refusal, short_for}
 use Rattle.reader.specs.Answers.{read_outcome}
 use Rattle.listing_input.specs.Printed.{list_refusal, refined_file}
 use Rattle.listing_input.proofs.FileLaws.{refused_reading}
-use Rattle.listing_input.proofs.files.refine_file.Statement.{statement}
-use Rattle.listing_input.proofs.files.refine_file.Tie as tie
+use Rattle.listing_input.proofs.files.refine_file.Goals as goal
 
-check-file-requires : tie.Need-check-file-requires
-check-file-requires c κs = search rules
-
-enum-known-found : tie.Need-enum-known-found
-enum-known-found c = search rules
-
-refine-checked-requires : tie.Need-refine-checked-requires
-refine-checked-requires c κs =
-    sym (sym (ap read_outcome c.before.before.before.found.given.1)
-    ∙ c.before.before.before.before.before.check-file.ensures)
-
-enum-known-found-2 : tie.Need-enum-known-found-2
-enum-known-found-2 c = search rules
-
-same_length : tie.Need-same-length
-same_length c = search rules
-
-same-length-2 : tie.Need-same-length-2
-same-length-2 c = search rules
-
-returns : tie.Need-returns
-returns c = search rules
-
-returns-2 : tie.Need-returns-2
-returns-2 c =
-    let a = c.before.before.before.before.before.args in
+pub returns-in-Refused : goal.returns-in-Refused
+returns-in-Refused c =
+    let a = c.args in
     let file = a.file.now in
     let net = a.net.now in
     let refined = a.refined.now in
     let early = read_refusal file (short_for file (length net)) in
     let refusal = list_refusal file (length net) (length refined) in
-    let outcome = sym (ap read_outcome c.before.found2.given.1) ∙ c.before.before.before.check-file.ensures in
-    let same : c.before.found2.given.0.0 ≡ early = λ t. (outcome t).0 in
+    let outcome = sym (ap read_outcome c.in-Refused.is) ∙ c.check_file-found.ensures in
+    let same : c.in-Refused.n ≡ early = λ t. (outcome t).0 in
     let there = not_accepted early (file_width file ∷ file_height file ∷ []) (lit< tt) outcome in
     let first = refused_reading file net (length refined) same (λ z. there (sym same ∙ z)) in
     let refused : refusal ≡ 0 → ⊥ = λ z. there (sym same ∙ first ∙ z) in
@@ -59,16 +35,3 @@ returns-2 c =
       net_refined = when_refused refusal (over (refined_file file) refined) refined refused;
       ready = tt;
     }
-
-pub refine_file_spec : {M : Type 1} → statement M
-refine_file_spec =
-    tie.close
-    (tie.spec
-    check-file-requires
-    enum-known-found
-    refine-checked-requires
-    enum-known-found-2
-    same_length
-    same-length-2
-    returns
-    returns-2)

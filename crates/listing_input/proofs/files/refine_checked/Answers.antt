@@ -19,10 +19,10 @@ use Rattle.reader.specs.Refusals.{read_refusal, short_for}
 use Rattle.reader.proofs.ReadLaws.{read_parts, good_head}
 use Rattle.listing_input.specs.Printed.{list_refusal, step_refusal, refined_file}
 use Rattle.listing_input.proofs.FileLaws.{refusal_after, refusal_first, refined_after_lem, accepted_after}
-use Rattle.listing_input.proofs.files.refine_checked.Statement.{statement}
-use Rattle.listing_input.proofs.files.refine_checked.Tie as tie
+use Rattle.listing_input.proofs.files.refine_checked.Goals as goal
+use Rattle.listing_input.proofs.files.refine_checked.Goals.{After-scratch-2-1, Start}
 
-module _ (s : tie.Start) where
+module _ (s : Start) where
   abbrev file : List ℕ
   file = s.args.file.now
 
@@ -43,7 +43,7 @@ module _ (s : tie.Start) where
 
   -- the file reads as a net of this size
   known : (early ≡ 0) × (s.args.w ∷ s.args.h ∷ [] ≡ file_width file ∷ file_height file ∷ [])
-  known = answered early (file_width file ∷ file_height file ∷ []) (sym s.pre)
+  known = answered early (file_width file ∷ file_height file ∷ []) (sym s.requires)
 
   wide : s.args.w ≡ file_width file
   wide = ap (λ (l : List ℕ). get_or l 0 0) known.1
@@ -63,65 +63,35 @@ module _ (s : tie.Start) where
   first : step_refusal s.args.w s.args.h (length refined) ≡ refusal
   first = (λ t. step_refusal (wide t) (high t) (length refined)) ∙ refusal_first file net (length refined) known.0
 
-step-refusal-requires : tie.Need-step-refusal-requires
-step-refusal-requires c κs = size_read c.before
-
-returns : tie.Need-returns
-returns c =
-    let s = c.before.before.before in
-    let same = c.before.step-refusal.ensures ∙ first s in
-    let there : refusal s ≡ 0 → ⊥ = λ z. c.if1.true (same ∙ z) in
+pub returns-then-refusal-ne0 : goal.returns-then-refusal-ne0
+returns-then-refusal-ne0 c =
+    let s = (goal.at.returns-then-refusal-ne0 c).Start in
+    let same = c.step_refusal-refusal.ensures ∙ first s in
+    let there : refusal s ≡ 0 → ⊥ = λ z. c.if-refusal-ne0.true (same ∙ z) in
     record {
-      answered = refused_answer (refusal s) (sides s) same c.if1.true;
+      answered = refused_answer (refusal s) (sides s) same c.if-refusal-ne0.true;
       net_read = when_refused (refusal s) (over (file_numbers (file s)) (net s)) (net s) there;
       net_refined = when_refused (refusal s) (over (refined_file (file s)) (refined s)) (refined s) there;
       ready = tt;
     }
 
-read-requires : tie.Need-read-requires
-read-requires c κs = search rules
-
-slice-aggregate-refine : tie.Need-slice-aggregate-refine
-slice-aggregate-refine c = search rules
-
-refine-requires : tie.Need-refine-requires
-refine-requires c κs = search rules
-
 -- where the call began, of what is known when it ends
-abbrev start : tie.After-scratch2 → tie.Start
-start c = c.before.before.before.before.before.before.before.before.before.before.before.before
+abbrev start : After-scratch-2-1 → Start
+start c = (goal.at.After-scratch-2-1 c).Start
 
-mul-t8 : tie.Need-overflow-mul-t8
-mul-t8 c = omega (arith, (good (start c)).narrow)
-
-sub-t20 : tie.Need-overflow-sub-t20
-sub-t20 c = omega (arith, (good (start c)).wide)
-
-mul-t21 : tie.Need-overflow-mul-t21
-mul-t21 c = omega (arith, (good (start c)).low)
-
-sub-t22 : tie.Need-overflow-sub-t22
-sub-t22 c = omega (arith, (good (start c)).high)
-
-same_length : tie.Need-same-length
-same_length c = search rules
-
-same-length-2 : tie.Need-same-length-2
-same-length-2 c = search rules
-
-returns-2 : tie.Need-returns-2
-returns-2 c =
-    let a = c.before.before.before.before.before.before.before in
-    let refining = c.before.before in
+pub returns : goal.returns
+returns c =
+    let a = c in
+    let refining = c in
     let s = start c in
     let w = refined_side (file_width (file s)) in
     let h = refined_side (file_height (file s)) in
     let room = length (refined s) in
-    let none : refusal s ≡ 0 = sym (a.before.before.before.step-refusal.ensures ∙ first s)
-    ∙ a.before.before.if1.false in
-    let read = a.read.ensures.1 in
+    let none : refusal s ≡ 0 = sym (a.step_refusal-refusal.ensures ∙ first s)
+    ∙ a.if-refusal-ne0.false in
+    let read = a.read.ensures.net_after in
     let left =
-    refining.refine.ensures.1.0
+    refining.refine.ensures.out_after
     ∙ (λ t. output_after (refine_refusal (read t) (wide s t) (high s t) 1 (too_short (wide s t) (high s t) 1 room 0))
     (refined_net (read t) (wide s t) (high s t) 1) (refined s))
     ∙ (λ t. output_after (refusal_after (file s) (net s) room (known s).0 t)
@@ -138,20 +108,3 @@ returns-2 c =
           (refined_side (get_or l 1 0))) (sym (known s).1)
           (accepted_after (file s) (net s) room (known s).0 (refined s) refl none));
     }
-
-pub refine_checked_spec : {M : Type 1} → statement M
-refine_checked_spec =
-    tie.close
-    (tie.spec
-    step-refusal-requires
-    returns
-    read-requires
-    slice-aggregate-refine
-    refine-requires
-    mul-t8
-    sub-t20
-    mul-t21
-    sub-t22
-    same_length
-    same-length-2
-    returns-2)

@@ -1,0 +1,53 @@
+-- `ups::ups_seam_points` meets its contract.
+use mathlib.Core.Path.{subst}
+use mathlib.Core.List.{List, [], ◌∷◌}
+use Prim.Native.Nat.{ℕ}
+use lib.IntN.{ℤ}
+use borrow.Author.Rules.{rules}
+use Rattle.seam.specs.Answers.{seam_outcome}
+use Rattle.ups.proofs.Exports.{Outcome, seam_room, seam_accepted, seam_refused}
+use Rattle.ups.proofs.ups_seam_points.Goals as goal
+use Rattle.ups.proofs.ups_seam_points.Goals.{After-seam_points_with-answer, In-At-2, Start}
+
+-- what the call ensures of an outcome, from where it was called
+module _ (c : After-seam_points_with-answer) where
+  abbrev start : Start
+  start = (goal.at.After-seam_points_with-answer c).Start
+
+  -- the slices after it
+  abbrev left : List ℤ × List ℤ × List ℤ × List ℤ
+  left =
+      let l = c.seam_points_with-answer.new.1.1.1.1.1.1.1.1.1.1 in
+      (l.0, l.1.0, l.1.1.0, l.1.1.1.0)
+
+  abbrev Of : ℕ × List ℤ → Type 0
+  Of =
+      let a = start.args in
+      Outcome a.net.now a.w a.h a.k a.l a.p a.q a.p2 a.q2 a.out.now a.scratch.now
+      a.out2.now a.scratch2.now a.points.now left.0 left.1 left.2 left.3
+
+  ensured : Of (seam_outcome c.seam_points_with-answer.result)
+  ensured = c.seam_points_with-answer.ensures
+
+-- an answer with points
+module _ (c : In-At-2) where
+  abbrev call : After-seam_points_with-answer
+  call = (goal.at.In-At-2 c).After-seam_points_with-answer
+
+  abbrev six : List ℤ
+  six =
+      let a = c.in-At.a in
+      let b = c.in-At.b in
+      a.x ∷ a.y ∷ a.z ∷ b.x ∷ b.y ∷ b.z ∷ []
+
+  given : Of call (0, six)
+  given = subst (λ r. Of call (seam_outcome r)) c.in-At.is (ensured call)
+
+pub returns-in-At : goal.returns-in-At
+returns-in-At c =
+    let p = (let at = (goal.at.returns-in-At c).In-At-2 in
+    let a = (start (call at)).args in
+    let l = left (call at) in
+    seam_accepted a.net.now a.w a.h a.k a.l a.p a.q a.p2 a.q2 a.out.now a.scratch.now
+    a.out2.now a.scratch2.now a.points.now l.0 l.1 l.2 l.3 (given at)
+    c.store_points.ensures) in record { value = p.0; seam_left = p.1; points_after = p.2; seam_holds = p.3; }

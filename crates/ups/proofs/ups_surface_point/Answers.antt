@@ -1,0 +1,60 @@
+-- `ups::ups_surface_point` meets its contract.
+use mathlib.Core.Path.{◌≡◌, sym, ap, ◌∙◌}
+use mathlib.Core.Bool.{cond}
+use mathlib.Core.List.{List, [], ◌∷◌}
+use Prim.Native.Nat.{ℕ, ◌≤◌}
+use lib.Dec.{lit<}
+use lib.IntN.{ℤ}
+use lib.ListN.{length}
+use borrow.Author.Rules.{rules}
+use Rattle.net.specs.Refusals.{accepted}
+use Rattle.net.proofs.Faults.{answered}
+use Rattle.surface.specs.Answers.{point_outcome}
+use Rattle.surface.specs.SurfacePoint.{surface_point}
+use Rattle.ups.specs.Exports.{point_export}
+use Rattle.ups.proofs.Exports.{point_room, stored_point, point_exported, point_refused}
+use Rattle.ups.proofs.ups_surface_point.Goals as goal
+use Rattle.ups.proofs.ups_surface_point.Goals.{After-surface_point_with-answer, In-At-2, Start}
+
+-- what the call answered
+module _ (c : After-surface_point_with-answer) where
+  abbrev start : Start
+  start = (goal.at.After-surface_point_with-answer c).Start
+
+  abbrev out : List ℤ
+  out = start.args.out.now
+
+  abbrev refusal : ℕ
+  refusal =
+      point_export start.args.net.now start.args.w start.args.h start.args.p start.args.q (length out)
+
+  abbrev point : List ℤ
+  point = surface_point start.args.net.now start.args.w start.args.h start.args.p start.args.q
+
+  outcome : {n : ℕ} {l : List ℤ} → point_outcome c.surface_point_with-answer.result ≡ (n, l) →
+      ◌≡◌ {A = ℕ × List ℤ} (n, l) (refusal, cond (accepted refusal) point [])
+  outcome e = sym e ∙ c.surface_point_with-answer.ensures
+
+-- of an answer with a point
+module _ (c : In-At-2) where
+  abbrev call : After-surface_point_with-answer
+  call = (goal.at.In-At-2 c).After-surface_point_with-answer
+
+  answer : (let at = c.in-At.point in
+      ◌≡◌ {A = ℕ × List ℤ} (0, at.x ∷ at.y ∷ at.z ∷ []) (refusal call, cond (accepted (refusal call)) (point call) []))
+  answer = outcome call (ap point_outcome c.in-At.is)
+
+  fits : 3 ≤ length (out call)
+  fits =
+      let a = (start call).args in
+      point_room a.net.now a.w a.h a.p a.q (length (out call))
+      (answered (refusal call) (point call) answer).0
+
+pub returns-in-At : goal.returns-in-At
+returns-in-At c =
+    let p = (let a = (goal.at.returns-in-At c).In-At-2 in
+    let at = a.in-At.point in
+    let held = c.struct_told-1.given in
+    point_exported (refusal (call a)) (point (call a)) (out (call a)) (answer a)
+    (stored_point at.x at.y at.z (out (call a)) held.0.1 held.1.0.1 held.1.1.0.1 (fits a)
+    c.store_point.ensures)) in record { value = p.0; out_after = p.1; }
