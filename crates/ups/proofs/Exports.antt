@@ -83,7 +83,7 @@ point_room net w h p q room none = ltb-false room 3 (point_fits net w h p q (ltb
 pub outlined_point_room : (net : List ℤ) (w h : ℕ) (outline : List ℕ) (p q room : ℕ) →
     outlined_point_export net w h outline p q room ≡ 0 → 3 ≤ room
 outlined_point_room net w h outline p q room none =
-    ltb-false room 3 (outlined.point-fits net w h outline p q (ltb room 3) none)
+    ltb-false room 3 (outlined.point_fits net w h outline p q (ltb room 3) none)
 
 -- three coordinates, out of the bits that hold them, over the front of an output
 pub stored_point : (x y z : ℤ) (out : List ℤ) {after : List ℤ} → mag x < 2 ^ 31 → mag y < 2 ^ 31 → mag z < 2 ^ 31 →

@@ -17,7 +17,7 @@ returns-in-Done c =
     let outcome = c.bezier_net-answer.ensures in
     bezier_outcome_lem a.net.now a.w a.h a.i a.j a.down a.out.now
     (le-ltb _ _ c.if-down-gt1.false)
-    (λ t. ((sym (ap bezier_outcome c.in-Done.is) ∙ outcome.0) t).0) outcome.1) in record { value = p.0; out_after = p.1; }
+    (λ t. ((sym (ap bezier_outcome c.in-Done.is) ∙ outcome.result_value) t).0) outcome.out_after) in record { value = p.0; out_after = p.1; }
 
 pub returns-in-Refused : goal.returns-in-Refused
 returns-in-Refused c =
@@ -25,4 +25,4 @@ returns-in-Refused c =
     let outcome = c.bezier_net-answer.ensures in
     bezier_outcome_lem a.net.now a.w a.h a.i a.j a.down a.out.now
     (le-ltb _ _ c.if-down-gt1.false)
-    (λ t. ((sym (ap bezier_outcome c.in-Refused.is) ∙ outcome.0) t).0) outcome.1) in record { value = p.0; out_after = p.1; }
+    (λ t. ((sym (ap bezier_outcome c.in-Refused.is) ∙ outcome.result_value) t).0) outcome.out_after) in record { value = p.0; out_after = p.1; }

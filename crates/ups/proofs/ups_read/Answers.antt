@@ -60,4 +60,4 @@ pub returns-in-Size : goal.returns-in-Size
 returns-in-Size c =
     let p = (let k = at c in
     exported (refusal k) (sides k) (counts k) (file_numbers (file k)) (net k) (outcome c) (sides_fit c) refl
-    k.read_with-answer.ensures.net_after) in record { value = p.0; net_after = p.1; size_after = p.2; }
+    k.read_with-answer.ensures.net_after) in record { value = p.0; net_after = p.1.0; size_after = p.1.1; }

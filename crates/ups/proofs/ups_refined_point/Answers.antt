@@ -17,7 +17,7 @@ use Rattle.refined_points.specs.Answers.{refusal_at, refined_surface_point}
 use Rattle.refined_points.proofs.RefinedPoints.{point_accepted}
 use Rattle.ups.proofs.Exports.{stored_point, left_exported, claimed_exported}
 use Rattle.ups.proofs.ups_refined_point.Goals as goal
-use Rattle.ups.proofs.ups_refined_point.Goals.{After-refined_point_with-answer, In-At-2, Start}
+use Rattle.ups.proofs.ups_refined_point.Goals.{After-refined_point_with-answer, In-At, Start}
 
 abbrev short : Start → Bool
 short s = ltb (length s.args.point.now) 3
@@ -41,16 +41,16 @@ room s none =
     (length s.args.out.now) (length s.args.scratch.now) none).2
 
 -- the outcome of an answer with a point
-module _ (c : In-At-2) where
+module _ (c : In-At) where
   abbrev call : After-refined_point_with-answer
-  call = (goal.at.In-At-2 c).After-refined_point_with-answer
+  call = (goal.at.In-At c).After-refined_point_with-answer
 
   abbrev start : Start
-  start = call.before.before.before
+  start = (goal.at.In-At c).Start
 
   outcome : ◌≡◌ {A = ℕ × List ℤ} (point_outcome call.refined_point_with-answer.result)
       (refusal start, cond (accepted (refusal start)) (values start) [])
-  outcome = call.refined_point_with-answer.ensures.answer-1
+  outcome = call.refined_point_with-answer.ensures.answer
 
   given : (let point = c.in-At.at in (refusal start ≡ 0)
       × (point.x ∷ point.y ∷ point.z ∷ [] ≡ values start))
@@ -58,7 +58,7 @@ module _ (c : In-At-2) where
 
 pub returns-in-At : goal.returns-in-At
 returns-in-At c =
-    let a = (goal.at.returns-in-At c).In-At-2 in
+    let a = (goal.at.returns-in-At c).In-At in
     let s = start a in
     let k = call a in
     let point = a.in-At.at in

@@ -18,7 +18,7 @@ use Rattle.outlined_refined_points.specs.Answers.{point_faults_of, outlined_refu
 use Rattle.outlined_refined_points.proofs.CallLaws.{point_fits}
 use Rattle.ups.proofs.Exports.{stored_point, point_refused, outlined_left, claimed_exported}
 use Rattle.ups.proofs.ups_refined_point_outlined.Goals as goal
-use Rattle.ups.proofs.ups_refined_point_outlined.Goals.{After-refined_point_outlined_with-answer, After-search-1, In-At-2, Start}
+use Rattle.ups.proofs.ups_refined_point_outlined.Goals.{After-refined_point_outlined_with-answer, In-At, Start}
 
 -- what the call answered and left
 module _ (k : After-refined_point_outlined_with-answer) where
@@ -50,18 +50,18 @@ module _ (k : After-refined_point_outlined_with-answer) where
 
   outcome : {n : ℕ} {l : List ℤ} → point_outcome k.refined_point_outlined_with-answer.result ≡ (n, l) →
       ◌≡◌ {A = ℕ × List ℤ} (n, l) (refusal, cond (accepted refusal) values [])
-  outcome e = sym e ∙ k.refined_point_outlined_with-answer.ensures.answer-1
+  outcome e = sym e ∙ k.refined_point_outlined_with-answer.ensures.answer
 
   left : {n : ℕ} → n ≡ refusal → (let a = start.args in
-      let after = k.refined_point_outlined_with-answer.last.1.1.1.1.1.1.1.1 in
+      let after = k.refined_point_outlined_with-answer.new in
       (n ≡ refusal)
       × OutlinedLeft n before a.net.now a.w a.h a.k a.outline.now a.out.now a.scratch.now
-      a.fine.now a.search.now after.0 after.1.0 after.1.1.0 after.1.1.1.0)
+      a.fine.now a.search.now after.out after.scratch after.fine after.search)
   left e =
       let a = start.args in
-      let after = k.refined_point_outlined_with-answer.last.1.1.1.1.1.1.1.1 in
+      let after = k.refined_point_outlined_with-answer.new in
       outlined_left refusal before a.net.now a.w a.h a.k a.outline.now a.out.now a.scratch.now
-      a.fine.now a.search.now after.0 after.1.0 after.1.1.0 after.1.1.1.0 e
+      a.fine.now a.search.now after.out after.scratch after.fine after.search e
       k.refined_point_outlined_with-answer.ensures.left
 
   -- there is room for the point where nothing is refused
@@ -73,19 +73,16 @@ module _ (k : After-refined_point_outlined_with-answer) where
       a.scratch.now a.fine.now a.search.now none)
 
 -- of an answer with a point
-module _ (c : In-At-2) where
-  abbrev slices : After-search-1
-  slices = (goal.at.In-At-2 c).After-search-1
-
+module _ (c : In-At) where
   abbrev call : After-refined_point_outlined_with-answer
-  call = slices.before.before.before.before.before
+  call = (goal.at.In-At c).After-refined_point_outlined_with-answer
 
   given : (let at = c.in-At.at in (refusal call ≡ 0) × (at.x ∷ at.y ∷ at.z ∷ [] ≡ values call))
   given = answered (refusal call) (values call) (outcome call (ap point_outcome c.in-At.is))
 
 pub returns-in-At : goal.returns-in-At
 returns-in-At c =
-    let a = (goal.at.returns-in-At c).In-At-2 in
+    let a = (goal.at.returns-in-At c).In-At in
     let k = call a in
     let s = start k in
     let at = a.in-At.at in

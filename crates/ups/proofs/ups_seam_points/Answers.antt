@@ -7,7 +7,7 @@ use borrow.Author.Rules.{rules}
 use Rattle.seam.specs.Answers.{seam_outcome}
 use Rattle.ups.proofs.Exports.{Outcome, seam_room, seam_accepted, seam_refused}
 use Rattle.ups.proofs.ups_seam_points.Goals as goal
-use Rattle.ups.proofs.ups_seam_points.Goals.{After-seam_points_with-answer, In-At-2, Start}
+use Rattle.ups.proofs.ups_seam_points.Goals.{After-seam_points_with-answer, In-At, Start}
 
 -- what the call ensures of an outcome, from where it was called
 module _ (c : After-seam_points_with-answer) where
@@ -17,8 +17,8 @@ module _ (c : After-seam_points_with-answer) where
   -- the slices after it
   abbrev left : List ℤ × List ℤ × List ℤ × List ℤ
   left =
-      let l = c.seam_points_with-answer.new.1.1.1.1.1.1.1.1.1.1 in
-      (l.0, l.1.0, l.1.1.0, l.1.1.1.0)
+      let l = c.seam_points_with-answer.new in
+      (l.out, l.scratch, l.out2, l.scratch2)
 
   abbrev Of : ℕ × List ℤ → Type 0
   Of =
@@ -27,12 +27,12 @@ module _ (c : After-seam_points_with-answer) where
       a.out2.now a.scratch2.now a.points.now left.0 left.1 left.2 left.3
 
   ensured : Of (seam_outcome c.seam_points_with-answer.result)
-  ensured = c.seam_points_with-answer.ensures
+  ensured = let e = c.seam_points_with-answer.ensures in (e.result_value, (e.seam_left, e.seam_holds))
 
 -- an answer with points
-module _ (c : In-At-2) where
+module _ (c : In-At) where
   abbrev call : After-seam_points_with-answer
-  call = (goal.at.In-At-2 c).After-seam_points_with-answer
+  call = (goal.at.In-At c).After-seam_points_with-answer
 
   abbrev six : List ℤ
   six =
@@ -45,9 +45,9 @@ module _ (c : In-At-2) where
 
 pub returns-in-At : goal.returns-in-At
 returns-in-At c =
-    let p = (let at = (goal.at.returns-in-At c).In-At-2 in
+    let p = (let at = (goal.at.returns-in-At c).In-At in
     let a = (start (call at)).args in
     let l = left (call at) in
     seam_accepted a.net.now a.w a.h a.k a.l a.p a.q a.p2 a.q2 a.out.now a.scratch.now
     a.out2.now a.scratch2.now a.points.now l.0 l.1 l.2 l.3 (given at)
-    c.store_points.ensures) in record { value = p.0; seam_left = p.1; points_after = p.2; seam_holds = p.3; }
+    c.store_points.ensures) in record { value = p.0; seam_left = p.1.0; points_after = p.1.1.0; seam_holds = p.1.1.1; }

@@ -14,7 +14,7 @@ use Rattle.surface.specs.SurfacePoint.{surface_point}
 use Rattle.ups.specs.Exports.{point_export}
 use Rattle.ups.proofs.Exports.{point_room, stored_point, point_exported, point_refused}
 use Rattle.ups.proofs.ups_surface_point.Goals as goal
-use Rattle.ups.proofs.ups_surface_point.Goals.{After-surface_point_with-answer, In-At-2, Start}
+use Rattle.ups.proofs.ups_surface_point.Goals.{After-surface_point_with-answer, In-At, Start}
 
 -- what the call answered
 module _ (c : After-surface_point_with-answer) where
@@ -36,9 +36,9 @@ module _ (c : After-surface_point_with-answer) where
   outcome e = sym e ∙ c.surface_point_with-answer.ensures
 
 -- of an answer with a point
-module _ (c : In-At-2) where
+module _ (c : In-At) where
   abbrev call : After-surface_point_with-answer
-  call = (goal.at.In-At-2 c).After-surface_point_with-answer
+  call = (goal.at.In-At c).After-surface_point_with-answer
 
   answer : (let at = c.in-At.point in
       ◌≡◌ {A = ℕ × List ℤ} (0, at.x ∷ at.y ∷ at.z ∷ []) (refusal call, cond (accepted (refusal call)) (point call) []))
@@ -52,7 +52,7 @@ module _ (c : In-At-2) where
 
 pub returns-in-At : goal.returns-in-At
 returns-in-At c =
-    let p = (let a = (goal.at.returns-in-At c).In-At-2 in
+    let p = (let a = (goal.at.returns-in-At c).In-At in
     let at = a.in-At.point in
     let held = c.struct_told-1.given in
     point_exported (refusal (call a)) (point (call a)) (out (call a)) (answer a)

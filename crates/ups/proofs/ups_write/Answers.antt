@@ -63,4 +63,4 @@ pub returns-in-Written : goal.returns-in-Written
 returns-in-Written c =
     let p = (let k = at c in
     exported (refusal k) (file_size (w k) (h k) ∷ []) (counts k) (net_file (net k) (w k) (h k)) (out k) (outcome c)
-    (count_fits c) refl k.write_with-answer.ensures.out_after) in record { value = p.0; out_after = p.1; written_after = p.2; }
+    (count_fits c) refl k.write_with-answer.ensures.out_after) in record { value = p.0; out_after = p.1.0; written_after = p.1.1; }
