@@ -1,7 +1,4 @@
 -- `ups::store_view` meets its contract.
-use native.Mathlib.Omega.{arith}
-use lib.ListN.{length-set}
-use borrow.Author.Rules.{rules}
 use Rattle.exact.proofs.FillingLaws.{sets_over}
 use Rattle.ups.proofs.store_view.Goals as goal
 

@@ -37,8 +37,8 @@ enum_told-1 c = search rules
 
 pub returns-in-Done : goal.returns-in-Done
 returns-in-Done c =
-    let p = (returned (goal.at.returns-in-Done c).After-bezier_net_outlined-answer (ap bezier_outcome c.in-Done.is)) in record { value = p.0; out_after = p.1; }
+    let p = (returned (goal.at.returns-in-Done c).After-bezier_net_outlined-answer (ap bezier_outcome c.in-Done.is)) in record { value = p.0; out_after = p.1 }
 
 pub returns-in-Refused : goal.returns-in-Refused
 returns-in-Refused c =
-    let p = (returned (goal.at.returns-in-Refused c).After-bezier_net_outlined-answer (ap bezier_outcome c.in-Refused.is)) in record { value = p.0; out_after = p.1; }
+    let p = (returned (goal.at.returns-in-Refused c).After-bezier_net_outlined-answer (ap bezier_outcome c.in-Refused.is)) in record { value = p.0; out_after = p.1 }

@@ -3,20 +3,17 @@ use mathlib.Core.Path.{◌≡◌, refl, sym, ap, ◌∙◌}
 use mathlib.Core.Bool.{Bool, ◌||◌, cond}
 use mathlib.Core.List.{List, [], ◌∷◌}
 use Prim.Native.Nat.{ℕ, ◌≤◌}
-use native.Mathlib.Omega.{arith}
-use lib.Dec.{ltb, lit<}
+use lib.Dec.{ltb}
 use lib.IntN.{ℤ}
 use lib.ListN.{length}
-use lib.Seq.{lt-length-set}
 use borrow.Author.Tests.{ltb-false}
-use borrow.Author.Rules.{rules}
 use Rattle.net.specs.Refusals.{accepted}
 use Rattle.net.proofs.Faults.{or_none, answered}
 use Rattle.words.specs.NetFile.{file_width, file_height, file_numbers}
 use Rattle.reader.specs.Refusals.{short_for, read_refusal}
 use Rattle.reader.specs.Answers.{read_outcome}
 use Rattle.reader.proofs.ReadLaws.{read_fits}
-use Rattle.ups.proofs.Exports.{exported, not_exported}
+use Rattle.ups.proofs.Exports.{exported}
 use Rattle.ups.proofs.ups_read.Goals as goal
 use Rattle.ups.proofs.ups_read.Goals.{After-read_with-answer, In-Size}
 
@@ -60,4 +57,4 @@ pub returns-in-Size : goal.returns-in-Size
 returns-in-Size c =
     let p = (let k = at c in
     exported (refusal k) (sides k) (counts k) (file_numbers (file k)) (net k) (outcome c) (sides_fit c) refl
-    k.read_with-answer.ensures.net_after) in record { value = p.0; net_after = p.1.0; size_after = p.1.1; }
+    k.read_with-answer.ensures.net_after) in record { value = p.0; net_after = p.1.0; size_after = p.1.1 }

@@ -3,14 +3,13 @@ use mathlib.Core.Path.{◌≡◌, refl, sym, ap, ◌∙◌}
 use mathlib.Core.Bool.{Bool, cond}
 use mathlib.Core.List.{List, [], ◌∷◌}
 use Prim.Native.Nat.{ℕ, ◌≤◌}
-use lib.Dec.{ltb, lit<}
+use lib.Dec.{ltb}
 use lib.IntN.{ℤ}
 use lib.ListN.{length}
-use borrow.Author.Rules.{rules}
 use borrow.Author.Tests.{ltb-false}
 use Rattle.exact.specs.Filling.{over}
 use Rattle.net.specs.Refusals.{accepted}
-use Rattle.net.proofs.Faults.{answered, not_accepted, when_refused}
+use Rattle.net.proofs.Faults.{answered}
 use Rattle.surface.specs.Answers.{point_outcome}
 use Rattle.steps.specs.RefinedNet.{refined_net}
 use Rattle.refined_points.specs.Answers.{refusal_at, refined_surface_point}

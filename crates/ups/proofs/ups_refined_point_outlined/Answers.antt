@@ -3,20 +3,19 @@ use mathlib.Core.Path.{◌≡◌, refl, sym, ap, ◌∙◌}
 use mathlib.Core.Bool.{Bool, cond}
 use mathlib.Core.List.{List, [], ◌∷◌}
 use Prim.Native.Nat.{ℕ, ◌≤◌}
-use lib.Dec.{ltb, lit<}
+use lib.Dec.{ltb}
 use lib.IntN.{ℤ}
 use lib.ListN.{length}
-use borrow.Author.Rules.{rules}
 use borrow.Author.Tests.{ltb-false}
 use Rattle.exact.specs.Filling.{over}
 use Rattle.net.specs.Refusals.{Fault, accepted}
-use Rattle.net.proofs.Faults.{answered, not_accepted}
+use Rattle.net.proofs.Faults.{answered}
 use Rattle.surface.specs.Answers.{point_outcome}
 use Rattle.refined_points.specs.Answers.{refined_surface_point}
 use Rattle.outlined_refine.specs.Answers.{OutlinedLeft}
 use Rattle.outlined_refined_points.specs.Answers.{point_faults_of, outlined_refusal_at}
 use Rattle.outlined_refined_points.proofs.CallLaws.{point_fits}
-use Rattle.ups.proofs.Exports.{stored_point, point_refused, outlined_left, claimed_exported}
+use Rattle.ups.proofs.Exports.{stored_point, outlined_left, claimed_exported}
 use Rattle.ups.proofs.ups_refined_point_outlined.Goals as goal
 use Rattle.ups.proofs.ups_refined_point_outlined.Goals.{After-refined_point_outlined_with-answer, In-At, Start}
 

@@ -3,9 +3,8 @@ use mathlib.Core.Path.{subst}
 use mathlib.Core.List.{List, [], ◌∷◌}
 use Prim.Native.Nat.{ℕ}
 use lib.IntN.{ℤ}
-use borrow.Author.Rules.{rules}
 use Rattle.seam.specs.Answers.{seam_outcome}
-use Rattle.ups.proofs.Exports.{Outcome, seam_room, seam_accepted, seam_refused}
+use Rattle.ups.proofs.Exports.{Outcome, seam_accepted}
 use Rattle.ups.proofs.ups_seam_points.Goals as goal
 use Rattle.ups.proofs.ups_seam_points.Goals.{After-seam_points_with-answer, In-At, Start}
 
@@ -50,4 +49,4 @@ returns-in-At c =
     let l = left (call at) in
     seam_accepted a.net.now a.w a.h a.k a.l a.p a.q a.p2 a.q2 a.out.now a.scratch.now
     a.out2.now a.scratch2.now a.points.now l.0 l.1 l.2 l.3 (given at)
-    c.store_points.ensures) in record { value = p.0; seam_left = p.1.0; points_after = p.1.1.0; seam_holds = p.1.1.1; }
+    c.store_points.ensures) in record { value = p.0; seam_left = p.1.0; points_after = p.1.1.0; seam_holds = p.1.1.1 }

@@ -3,16 +3,14 @@ use mathlib.Core.Path.{◌≡◌, sym, ap, ◌∙◌}
 use mathlib.Core.Bool.{cond}
 use mathlib.Core.List.{List, [], ◌∷◌}
 use Prim.Native.Nat.{ℕ, ◌≤◌}
-use lib.Dec.{lit<}
 use lib.IntN.{ℤ}
 use lib.ListN.{length}
-use borrow.Author.Rules.{rules}
 use Rattle.net.specs.Refusals.{accepted}
 use Rattle.net.proofs.Faults.{answered}
 use Rattle.surface.specs.Answers.{point_outcome}
 use Rattle.surface.specs.SurfacePoint.{surface_point}
 use Rattle.ups.specs.Exports.{outlined_point_export}
-use Rattle.ups.proofs.Exports.{outlined_point_room, stored_point, point_exported, point_refused}
+use Rattle.ups.proofs.Exports.{outlined_point_room, stored_point, point_exported}
 use Rattle.ups.proofs.ups_surface_point_outlined.Goals as goal
 use Rattle.ups.proofs.ups_surface_point_outlined.Goals.{After-surface_point_outlined_with-answer, In-At, Start}
 
@@ -58,4 +56,4 @@ returns-in-At c =
     let held = c.struct_told-1.given in
     point_exported (refusal (call a)) (point (call a)) (out (call a)) (answer a)
     (stored_point at.x at.y at.z (out (call a)) held.0.1 held.1.0.1 held.1.1.0.1 (fits a)
-    c.store_point.ensures)) in record { value = p.0; out_after = p.1; }
+    c.store_point.ensures)) in record { value = p.0; out_after = p.1 }

@@ -3,18 +3,17 @@ use mathlib.Core.Path.{◌≡◌, refl, sym, ap, ◌∙◌}
 use mathlib.Core.Bool.{Bool, ◌||◌, cond}
 use mathlib.Core.List.{List, [], ◌∷◌}
 use Prim.Native.Nat.{ℕ, ◌≤◌}
-use lib.Dec.{ltb, lit<}
+use lib.Dec.{ltb}
 use lib.IntN.{ℤ}
 use lib.ListN.{length}
 use borrow.Author.Tests.{ltb-false}
-use borrow.Author.Rules.{rules}
 use Rattle.net.specs.Refusals.{accepted}
 use Rattle.net.proofs.Faults.{or_none, answered}
 use Rattle.words.specs.NetFile.{net_file, file_size}
 use Rattle.writer.specs.Refusals.{no_room, write_refusal}
 use Rattle.writer.specs.Answers.{write_outcome}
 use Rattle.writer.proofs.WriteLaws.{write_fits}
-use Rattle.ups.proofs.Exports.{exported, not_exported}
+use Rattle.ups.proofs.Exports.{exported}
 use Rattle.ups.proofs.ups_write.Goals as goal
 use Rattle.ups.proofs.ups_write.Goals.{After-write_with-answer, In-Written}
 
@@ -63,4 +62,4 @@ pub returns-in-Written : goal.returns-in-Written
 returns-in-Written c =
     let p = (let k = at c in
     exported (refusal k) (file_size (w k) (h k) ∷ []) (counts k) (net_file (net k) (w k) (h k)) (out k) (outcome c)
-    (count_fits c) refl k.write_with-answer.ensures.out_after) in record { value = p.0; out_after = p.1.0; written_after = p.1.1; }
+    (count_fits c) refl k.write_with-answer.ensures.out_after) in record { value = p.0; out_after = p.1.0; written_after = p.1.1 }

@@ -5,7 +5,6 @@ use mathlib.Core.Path.{◌≡◌, sym, ap, ◌∙◌, subst}
 use Prim.Native.Nat.{ℕ, ◌<◌}
 use lib.ListN.{length}
 use lib.IntN.{ℤ}
-use borrow.Author.Rules.{rules}
 use Rattle.exact.specs.WeightedSum.{Within}
 use Rattle.exact.specs.Filling.{over, runs}
 use Rattle.net.specs.Net.{Triangle, triangle_at}
@@ -68,7 +67,7 @@ module _ (c : After-reorder_controls-c) where
 
 pub returns-then-refusal-ne0 : goal.returns-then-refusal-ne0
 returns-then-refusal-ne0 c =
-    let p = (refused_bezier _ _ _ _ _ _ _ c.bezier_refusal-refusal.ensures c.if-refusal-ne0.true) in record { result_value = p.0; out_after = p.1; }
+    let p = (refused_bezier _ _ _ _ _ _ _ c.bezier_refusal-refusal.ensures c.if-refusal-ne0.true) in record { result_value = p.0; out_after = p.1 }
 
 pub load_triangle-requires : goal.load_triangle-requires
 load_triangle-requires c = (good c).lies
@@ -86,4 +85,4 @@ returns c =
     accepted_bezier (net e) (w e) (h e) (i e) (j e) (down e) (out e) (none e)
     (c.write_points.ensures
     ∙ (λ k. over (runs 19 (three_at (x k) (y k) (z k))) (out e))
-    ∙ ap (λ (l : List ℤ). over l (out e)) (points_of_net (net e) (w e) (triangle e)))) in record { result_value = p.0; out_after = p.1; }
+    ∙ ap (λ (l : List ℤ). over l (out e)) (points_of_net (net e) (w e) (triangle e)))) in record { result_value = p.0; out_after = p.1 }

@@ -1,10 +1,7 @@
 -- `bezier::bezier::bezier_refusal` meets its contract: each branch is the first fault that is there.
 use mathlib.Core.Bool.{false}
-use mathlib.Core.Path.{◌≡◌, refl, sym, ◌∙◌}
-use borrow.Author.Tests.{lt-ltb, le-ltb}
-use borrow.Author.Rules.{rules}
+use mathlib.Core.Path.{◌≡◌, sym, ◌∙◌}
 use Rattle.net.specs.Refusals.{bad_size, short_net}
-use Rattle.net.proofs.Faults.{cond_true, cond_false}
 use Rattle.bezier.specs.Refusals.{no_triangle}
 use Rattle.bezier.proofs.BezierNets.{in_net_triangle}
 use Rattle.bezier.proofs.bezier.bezier_refusal.Goals as goal

@@ -2,7 +2,6 @@
 use mathlib.Core.List.{List}
 use lib.IntN.{pos}
 use mir.Syntax.{w32}
-use borrow.Author.Rules.{rules}
 use Rattle.exact.proofs.Expressions.{var, lit, ◌⊕◌, ◌⊗◌, plus, times}
 use Rattle.exact.proofs.SignedCode.{Leaf, reads_exact, operation_fits}
 use Rattle.bezier.proofs.Weights.{held_corner, s_e, ahead_e, back_e, v_e}

@@ -2,8 +2,8 @@
 use mathlib.Core.List.{List, [], ◌∷◌}
 use lib.IntN.{pos}
 use mir.Syntax.{w32}
-use Rattle.exact.proofs.Expressions.{var, lit, ◌⊕◌, ◌⊗◌, plus, times}
-use Rattle.exact.proofs.SignedCode.{Leaf, reads_back, reads_exact, operation_fits}
+use Rattle.exact.proofs.Expressions.{var, lit, ◌⊕◌, ◌⊗◌}
+use Rattle.exact.proofs.SignedCode.{Leaf, reads_back, reads_exact}
 use Rattle.bezier.proofs.Weights.{held_terms}
 use Rattle.bezier.proofs.bezier.join_terms.Goals as goal
 use Rattle.bezier.proofs.bezier.join_terms.Goals.{After-struct_told-9-1, Start}

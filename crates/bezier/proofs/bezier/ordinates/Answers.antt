@@ -1,6 +1,5 @@
 -- `bezier::bezier::ordinates` meets its contract: the points of the corners' terms are the weighted sums.
 use mathlib.Core.Path.{◌≡◌, sym, subst, ◌∙◌}
-use lib.Dec.{lit≤}
 use lib.ListN.{length}
 use borrow.Author.Rules.{rules}
 use Rattle.bezier.specs.Weights.{SmallTerms, joined_terms}

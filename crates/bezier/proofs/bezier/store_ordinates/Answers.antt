@@ -1,13 +1,12 @@
 -- `bezier::bezier::store_ordinates` meets its contract: each iteration stores one number more.
-use mathlib.Core.Path.{◌≡◌, refl, ap, ◌∙◌}
-use Prim.Native.Nat.{ℕ, ◌+◌, ◌*◌, ◌-◌, ◌≤◌}
+use mathlib.Core.Path.{refl, ◌∙◌}
+use Prim.Native.Nat.{◌+◌, ◌*◌, ◌-◌}
 use native.Mathlib.Omega.{arith}
 use lib.IntN.{pos}
-use lib.ListN.{length, get_or, set}
+use lib.ListN.{get_or, set}
 use mir.Syntax.{w32}
 use borrow.Author.Rules.{rules}
 use Rattle.exact.proofs.SignedCode.{reads_back}
-use Rattle.bezier.specs.Weights.{placed}
 use Rattle.bezier.proofs.Placing.{placed_none, placed_more}
 use Rattle.bezier.proofs.bezier.store_ordinates.Goals as goal
 

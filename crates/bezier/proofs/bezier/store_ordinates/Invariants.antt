@@ -1,14 +1,8 @@
 -- `bezier::bezier::store_ordinates` meets its contract: each iteration stores one number more.
-use mathlib.Core.Path.{◌≡◌, refl, ap, ◌∙◌}
-use Prim.Native.Nat.{ℕ, ◌+◌, ◌*◌, ◌-◌, ◌≤◌}
-use native.Mathlib.Omega.{arith}
-use lib.IntN.{pos}
-use lib.ListN.{length, get_or, set}
-use mir.Syntax.{w32}
-use borrow.Author.Rules.{rules}
-use Rattle.exact.proofs.SignedCode.{reads_back}
+use mathlib.Core.Path.{◌≡◌}
+use Prim.Native.Nat.{◌-◌, ◌≤◌}
+use lib.ListN.{length}
 use Rattle.bezier.specs.Weights.{placed}
-use Rattle.bezier.proofs.Placing.{placed_none, placed_more}
 use Rattle.bezier.proofs.bezier.store_ordinates.Given as goal
 
 abbrev pub invariant-loop-n : goal.invariant-loop-n

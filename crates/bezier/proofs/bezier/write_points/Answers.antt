@@ -1,13 +1,12 @@
 -- `bezier::bezier::write_points` meets its contract: each iteration stores one coordinate more.
 use mathlib.Core.Path.{◌≡◌, refl, ap, ◌∙◌}
 use mathlib.Core.List.{List}
-use Prim.Native.Nat.{ℕ, ◌-◌, ◌≤◌, ◌<◌}
+use Prim.Native.Nat.{ℕ, ◌-◌}
 use native.Mathlib.Omega.{arith}
 use lib.IntN.{ℤ}
 use lib.ListN.{length}
 use borrow.Author.Rules.{rules}
-use Rattle.triangles.specs.Corners.{values_in}
-use Rattle.bezier.specs.Weights.{points_of, placed}
+use Rattle.bezier.specs.Weights.{placed}
 use Rattle.bezier.proofs.Placing.{length_placed, passes, passes_none, passes_more, passes_points}
 use Rattle.bezier.proofs.bezier.write_points.Invariants.{points}
 use Rattle.bezier.proofs.bezier.write_points.Goals as goal

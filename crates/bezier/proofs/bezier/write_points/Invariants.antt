@@ -1,14 +1,12 @@
 -- `bezier::bezier::write_points` meets its contract: each iteration stores one coordinate more.
-use mathlib.Core.Path.{◌≡◌, refl, ap, ◌∙◌}
+use mathlib.Core.Path.{◌≡◌}
 use mathlib.Core.List.{List}
-use Prim.Native.Nat.{ℕ, ◌-◌, ◌≤◌, ◌<◌}
-use native.Mathlib.Omega.{arith}
+use Prim.Native.Nat.{ℕ, ◌-◌, ◌≤◌}
 use lib.IntN.{ℤ}
 use lib.ListN.{length}
-use borrow.Author.Rules.{rules}
 use Rattle.triangles.specs.Corners.{values_in}
-use Rattle.bezier.specs.Weights.{points_of, placed}
-use Rattle.bezier.proofs.Placing.{length_placed, passes, passes_none, passes_more, passes_points}
+use Rattle.bezier.specs.Weights.{points_of}
+use Rattle.bezier.proofs.Placing.{passes}
 use Rattle.bezier.proofs.bezier.write_points.Given as goal
 
 -- the 19 points in coordinate x

@@ -2,7 +2,7 @@
 -- the range.
 use mathlib.Core.Path.{◌≡◌, refl, sym, ap, ◌∙◌}
 use mathlib.Core.Bool.{◌||◌}
-use Prim.Native.Nat.{ℕ, ◌-◌, ◌≤◌}
+use Prim.Native.Nat.{ℕ, ◌-◌}
 use native.Mathlib.Omega.{arith}
 use borrow.Author.Rules.{rules}
 use Rattle.exact.specs.Filling.{runs}
@@ -10,7 +10,7 @@ use Rattle.net.specs.Refusals.{net_limit, any_beyond}
 use Rattle.steps.specs.RefinedNet.{row_run}
 use Rattle.coarse.specs.Coarse.{coarse_side, coarse_fields}
 use Rattle.net.proofs.Ranges.{any_collected}
-use Rattle.coarse.proofs.CoarseLaws.{rows_tested, small_sides}
+use Rattle.coarse.proofs.CoarseLaws.{rows_tested}
 use Rattle.coarse.proofs.coarse.coarse_beyond.Goals as goal
 
 pub loop-j-init : goal.loop-j-init

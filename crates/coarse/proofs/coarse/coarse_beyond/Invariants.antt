@@ -1,16 +1,11 @@
 -- `coarse::coarse::coarse_beyond` meets its contract: what was found is whether a number of a row before j is beyond
 -- the range.
-use mathlib.Core.Path.{◌≡◌, refl, sym, ap, ◌∙◌}
-use mathlib.Core.Bool.{◌||◌}
-use Prim.Native.Nat.{ℕ, ◌-◌, ◌≤◌}
-use native.Mathlib.Omega.{arith}
-use borrow.Author.Rules.{rules}
+use mathlib.Core.Path.{◌≡◌}
+use Prim.Native.Nat.{◌-◌, ◌≤◌}
 use Rattle.exact.specs.Filling.{runs}
-use Rattle.net.specs.Refusals.{net_limit, any_beyond}
+use Rattle.net.specs.Refusals.{any_beyond}
 use Rattle.steps.specs.RefinedNet.{row_run}
 use Rattle.coarse.specs.Coarse.{coarse_side, coarse_fields}
-use Rattle.net.proofs.Ranges.{any_collected}
-use Rattle.coarse.proofs.CoarseLaws.{rows_tested, small_sides}
 use Rattle.coarse.proofs.coarse.coarse_beyond.Given as goal
 
 abbrev pub invariant-loop-j : goal.invariant-loop-j

@@ -7,7 +7,6 @@ use lib.IntN.{ℤ, nat_abs}
 use mir.Facts.{to_z-of_z}
 use mir.Syntax.{w32, w64}
 use mir.Val.{to_z, of_z}
-use borrow.Author.Rules.{rules}
 use Rattle.exact.specs.Rounding.{rounded}
 use Rattle.exact.specs.WeightedSum.{weighted_sum}
 use Rattle.exact.proofs.SignedCode.{reads_as}

@@ -1,15 +1,15 @@
 -- `coarse::coarse::coarse_row_beyond` meets its contract: what was found is whether a number of a vertex before i is
 -- beyond the range.
-use mathlib.Core.Path.{◌≡◌, refl, sym, ap, ◌∙◌}
+use mathlib.Core.Path.{refl, sym, ap, ◌∙◌}
 use mathlib.Core.Bool.{◌||◌}
-use Prim.Native.Nat.{ℕ, ◌-◌, ◌≤◌}
+use Prim.Native.Nat.{◌-◌}
 use native.Mathlib.Omega.{arith}
 use borrow.Author.Rules.{rules}
 use Rattle.exact.specs.Filling.{runs}
-use Rattle.net.specs.Refusals.{net_limit, any_beyond, controls_beyond}
-use Rattle.coarse.specs.Coarse.{coarse_side, coarse_controls}
+use Rattle.net.specs.Refusals.{net_limit, controls_beyond}
+use Rattle.coarse.specs.Coarse.{coarse_controls}
 use Rattle.net.proofs.Ranges.{any_collected}
-use Rattle.coarse.proofs.CoarseLaws.{run_in_row, small_sides, kept_vertex}
+use Rattle.coarse.proofs.CoarseLaws.{run_in_row, kept_vertex}
 use Rattle.coarse.proofs.coarse.coarse_row_beyond.Goals as goal
 
 pub loop-i-init : goal.loop-i-init

@@ -1,15 +1,10 @@
 -- `coarse::coarse::coarse_row_beyond` meets its contract: what was found is whether a number of a vertex before i is
 -- beyond the range.
-use mathlib.Core.Path.{◌≡◌, refl, sym, ap, ◌∙◌}
-use mathlib.Core.Bool.{◌||◌}
-use Prim.Native.Nat.{ℕ, ◌-◌, ◌≤◌}
-use native.Mathlib.Omega.{arith}
-use borrow.Author.Rules.{rules}
+use mathlib.Core.Path.{◌≡◌}
+use Prim.Native.Nat.{◌-◌, ◌≤◌}
 use Rattle.exact.specs.Filling.{runs}
-use Rattle.net.specs.Refusals.{net_limit, any_beyond, controls_beyond}
-use Rattle.coarse.specs.Coarse.{coarse_side, coarse_controls}
-use Rattle.net.proofs.Ranges.{any_collected}
-use Rattle.coarse.proofs.CoarseLaws.{run_in_row, small_sides, kept_vertex}
+use Rattle.net.specs.Refusals.{any_beyond}
+use Rattle.coarse.proofs.CoarseLaws.{run_in_row}
 use Rattle.coarse.proofs.coarse.coarse_row_beyond.Given as goal
 
 abbrev pub invariant-loop-i : goal.invariant-loop-i

@@ -1,5 +1,4 @@
 -- `coarse::coarse::coarse_triangle` meets its contract.
-use borrow.Author.Rules.{rules}
 use Rattle.net.specs.Net.{one, two, three}
 use Rattle.coarse.proofs.coarse.coarse_triangle.Goals as goal
 

@@ -1,8 +1,6 @@
 -- `coarse::coarse::coarse_vertex` meets its contract.
 use mathlib.Core.Path.{sym, ap, subst, ◌∙◌}
-use Prim.Native.Nat.{◌*◌, ◌≤◌}
-use native.Mathlib.Nat.{mul-le-mul, le_refl}
-use borrow.Author.Rules.{rules}
+use Prim.Native.Nat.{◌*◌}
 use Rattle.net.specs.Net.{vertex_at}
 use Rattle.net.specs.Refusals.{net_limit, ControlsWithin}
 use Rattle.net.proofs.Places.{field_size}

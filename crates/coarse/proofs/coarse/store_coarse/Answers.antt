@@ -14,7 +14,7 @@ use Rattle.net.specs.Net.{stride, numbers}
 use Rattle.net.proofs.Grids.{row_length}
 use Rattle.steps.specs.RefinedNet.{vertex_run, row_run}
 use Rattle.coarse.specs.Coarse.{coarse_side, coarse_fields}
-use Rattle.coarse.proofs.CoarseLaws.{coarse_by_rows, small_sides}
+use Rattle.coarse.proofs.CoarseLaws.{coarse_by_rows}
 use Rattle.coarse.proofs.coarse.store_coarse.Goals as goal
 
 -- row j, stored where the rows before it end

@@ -1,17 +1,14 @@
 -- `coarse::coarse::store_coarse_row` meets its contract.
-use mathlib.Core.Path.{◌≡◌, refl, ap, ◌∙◌}
-use Prim.Native.Nat.{ℕ, ◌+◌, ◌-◌, ◌*◌, ◌≤◌}
+use mathlib.Core.Path.{◌≡◌, refl, ◌∙◌}
+use Prim.Native.Nat.{◌+◌, ◌-◌, ◌*◌}
 use native.Mathlib.Omega.{arith}
-use lib.ListN.{length}
 use lib.Seq.{sets}
 use borrow.Author.Rules.{rules}
-use Rattle.exact.specs.Filling.{runs}
 use Rattle.exact.proofs.FillingLaws.{runs_none, runs_more}
-use Rattle.net.specs.Net.{vertex_at, start, stride, numbers}
-use Rattle.net.proofs.Places.{vertex_ends}
+use Rattle.net.specs.Net.{vertex_at, stride}
 use Rattle.steps.proofs.RefinedVertices.{stored_triangle}
 use Rattle.coarse.specs.Coarse.{coarse_side, coarse_fields, coarse_controls}
-use Rattle.coarse.proofs.CoarseLaws.{run_in_row, SmallSides, small_sides, kept_vertex}
+use Rattle.coarse.proofs.CoarseLaws.{run_in_row, kept_vertex}
 use Rattle.coarse.proofs.coarse.store_coarse_row.Goals as goal
 
 pub loop-i-init : goal.loop-i-init

@@ -1,17 +1,11 @@
 -- `coarse::coarse::store_coarse_row` meets its contract.
-use mathlib.Core.Path.{◌≡◌, refl, ap, ◌∙◌}
-use Prim.Native.Nat.{ℕ, ◌+◌, ◌-◌, ◌*◌, ◌≤◌}
-use native.Mathlib.Omega.{arith}
+use mathlib.Core.Path.{◌≡◌}
+use Prim.Native.Nat.{◌-◌, ◌*◌, ◌≤◌}
 use lib.ListN.{length}
 use lib.Seq.{sets}
-use borrow.Author.Rules.{rules}
 use Rattle.exact.specs.Filling.{runs}
-use Rattle.exact.proofs.FillingLaws.{runs_none, runs_more}
-use Rattle.net.specs.Net.{vertex_at, start, stride, numbers}
-use Rattle.net.proofs.Places.{vertex_ends}
-use Rattle.steps.proofs.RefinedVertices.{stored_triangle}
-use Rattle.coarse.specs.Coarse.{coarse_side, coarse_fields, coarse_controls}
-use Rattle.coarse.proofs.CoarseLaws.{run_in_row, SmallSides, small_sides, kept_vertex}
+use Rattle.net.specs.Net.{stride}
+use Rattle.coarse.proofs.CoarseLaws.{run_in_row}
 use Rattle.coarse.proofs.coarse.store_coarse_row.Given as goal
 
 abbrev pub invariant-loop-i : goal.invariant-loop-i

@@ -1,17 +1,15 @@
 -- `de_casteljau::averages::averages_of` meets its contract.
 use mathlib.Core.List.{List, [], ◌∷◌}
-use mathlib.Core.Path.{◌≡◌, sym, subst, ◌∙◌}
+use mathlib.Core.Path.{◌≡◌, sym, subst}
 use Prim.Native.Nat.{ℕ, ◌^◌, ◌≤◌}
 use lib.Dec.{lit≤}
 use lib.IntN.{ℤ, nat_abs}
-use mir.Syntax.{w64}
 use Rattle.exact.specs.WeightedSum.{Within}
 use Rattle.exact.proofs.WeightedSumLaws.{within_more}
-use Rattle.exact.proofs.SignedCode.{reads_as}
 use Rattle.de_casteljau.specs.declared.points.Ordinates.{Ordinates}
 use Rattle.de_casteljau.specs.Ordinates.{six}
 use Rattle.de_casteljau.specs.Averages.{average, first_average, second_average, third_average}
-use Rattle.de_casteljau.proofs.Averaging.{held, held_within, held_average, average_size}
+use Rattle.de_casteljau.proofs.Averaging.{held, held_average, average_size}
 use Rattle.de_casteljau.proofs.averages.averages_of.Goals as goal
 use Rattle.de_casteljau.proofs.averages.averages_of.Goals.{After-weigh-b001, Start}
 

@@ -1,14 +1,11 @@
 -- `de_casteljau::averages::last_average` meets its contract.
-use mathlib.Core.Path.{sym, subst, ap, ◌∙◌}
+use mathlib.Core.Path.{sym, subst}
 use Prim.Native.Nat.{◌*◌, ◌^◌}
 use lib.Dec.{lit≤}
-use mir.Syntax.{w64}
 use Rattle.exact.specs.WeightedSum.{Within}
 use Rattle.exact.proofs.WeightedSumLaws.{within_more}
-use Rattle.exact.proofs.SignedCode.{reads_as}
 use Rattle.de_casteljau.specs.declared.points.Ordinates.{Ordinates}
 use Rattle.de_casteljau.specs.Ordinates.{six, ordinates}
-use Rattle.de_casteljau.specs.Averages.{last_average}
 use Rattle.de_casteljau.proofs.SmallTriangles.{ordinates_within}
 use Rattle.de_casteljau.proofs.averages.last_average.Goals as goal
 

@@ -2,8 +2,7 @@
 use mathlib.Core.List.{List, [], ◌∷◌}
 use native.Mathlib.Omega.{arith}
 use mir.Syntax.{w64}
-use borrow.Author.Rules.{rules}
-use Rattle.exact.proofs.Expressions.{var, ◌⊕◌, ◌⊗◌, plus, times}
+use Rattle.exact.proofs.Expressions.{var, ◌⊕◌, ◌⊗◌, plus}
 use Rattle.exact.proofs.SignedCode.{Leaf, of_number, of_unsigned, reads_exact, operation_fits}
 use Rattle.de_casteljau.proofs.averages.weigh.Goals as goal
 use Rattle.de_casteljau.proofs.averages.weigh.Goals.{Start}

@@ -1,11 +1,10 @@
 -- `de_casteljau::points::six_u` meets its contract.
 use mathlib.Core.List.{List}
-use mathlib.Core.Bool.{Bool, true, false}
+use mathlib.Core.Bool.{Bool, true}
 use mathlib.Core.Path.{sym, ap, ◌∙◌}
-use lib.IntN.{pos}
 use mir.Syntax.{w64}
-use Rattle.exact.proofs.Expressions.{var, lit, ◌⊕◌, ◌⊗◌, plus, times}
-use Rattle.exact.proofs.SignedCode.{Leaf, reads_exact, operation_fits}
+use Rattle.exact.proofs.Expressions.{var}
+use Rattle.exact.proofs.SignedCode.{Leaf, reads_exact}
 use Rattle.de_casteljau.specs.Ordinates.{corner_u}
 use Rattle.de_casteljau.proofs.SmallTriangles.{held_corner, u_e}
 use Rattle.de_casteljau.proofs.points.six_u.Goals as goal

@@ -1,8 +1,8 @@
 -- The proof of the cycle of calls {store_decimal}: below ten there is one digit, and from ten on the last digit comes
 -- after the others.
-use mathlib.Core.Path.{◌≡◌, sym, ap, subst, ◌∙◌}
+use mathlib.Core.Path.{sym, ap, subst, ◌∙◌}
 use mathlib.Core.List.{List, [], ◌∷◌, ◌++◌}
-use Prim.Native.Nat.{ℕ, ◌+◌, ◌/◌, ◌%◌, ◌≤◌, ◌<◌}
+use Prim.Native.Nat.{ℕ, ◌+◌, ◌/◌, ◌%◌, ◌≤◌}
 use native.Mathlib.Omega.{arith}
 use lib.ListN.{length}
 use Rattle.decimal.specs.Decimal.{digit, decimal}
@@ -19,10 +19,11 @@ pub store_byte-requires : goal.store_byte-requires
 store_byte-requires t c = omega (arith, ap length (decimal_low c.args.n c.if-n-lt10.true), c.requires)
 
 pub store_decimal-after-requires : goal.store_decimal-after-requires
-store_decimal-after-requires t c =
-    (omega (arith, c.decreases, c.if-n-lt10.false),
-    room_first _ (decimal (c.args.n / 10)) (digit (c.args.n % 10) ∷ [])
-    (room c.args.n c.args.at c.args.out.now c.if-n-lt10.false c.requires))
+store_decimal-after-requires t c = (
+  omega (arith, c.decreases, c.if-n-lt10.false),
+  room_first _ (decimal (c.args.n / 10)) (digit (c.args.n % 10) ∷ [])
+      (room c.args.n c.args.at c.args.out.now c.if-n-lt10.false c.requires),
+)
 
 pub store_byte-requires-else-n-lt10 : goal.store_byte-requires-else-n-lt10
 store_byte-requires-else-n-lt10 t c =

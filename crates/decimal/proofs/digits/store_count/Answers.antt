@@ -1,8 +1,5 @@
 -- `decimal::digits::store_count` meets its contract: the digits, and then the byte.
-use mathlib.Core.List.{[], ◌∷◌}
-use borrow.Author.Rules.{rules}
-use Rattle.decimal.specs.Decimal.{decimal}
-use Rattle.decimal.proofs.StoringLaws.{stored_then, room_first, room_then}
+use Rattle.decimal.proofs.StoringLaws.{stored_then}
 use Rattle.decimal.proofs.digits.store_count.Goals as goal
 
 pub returns : goal.returns

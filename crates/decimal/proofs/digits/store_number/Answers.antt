@@ -7,9 +7,8 @@ use lib.ListN.{length}
 use mir.Facts.{to_z-of_z}
 use mir.Syntax.{w32}
 use mir.Val.{to_z, of_z}
-use borrow.Author.Rules.{rules}
 use Rattle.decimal.specs.Decimal.{signed_decimal}
-use Rattle.decimal.proofs.StoringLaws.{stored_as, stored_then, room_first, room_then}
+use Rattle.decimal.proofs.StoringLaws.{stored_as, stored_then}
 use Rattle.decimal.proofs.digits.store_number.Goals as goal
 use Rattle.decimal.proofs.digits.store_number.Goals.{Start}
 

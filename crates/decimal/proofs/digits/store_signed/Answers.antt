@@ -6,7 +6,6 @@ use lib.IntN.{ℤ, pos, nat_abs}
 use lib.ListN.{length}
 use lib.Signed.{lt_z}
 use mir.Facts.{to_z-of_z}
-use borrow.Author.Rules.{rules}
 use Rattle.exact.proofs.SignedCode.{less_taken, less_left}
 use Rattle.decimal.specs.Decimal.{decimal, signed_decimal}
 use Rattle.decimal.proofs.DecimalLaws.{signed_below, signed_above}

@@ -1,14 +1,10 @@
 -- `details::cleaning::clean` meets its contract.
 use mathlib.Core.Path.{◌≡◌, sym, ◌∙◌}
 use mathlib.Core.List.{List}
-use Prim.Native.Nat.{ℕ, ◌*◌, ◌≤◌}
-use native.Mathlib.Omega.{arith}
+use Prim.Native.Nat.{ℕ}
 use lib.IntN.{ℤ}
-use borrow.Author.Rules.{rules}
-use borrow.Author.Tests.{ltb-false}
 use Rattle.exact.specs.Filling.{over}
-use Rattle.net.proofs.Faults.{Clear, carried_out, not_carried_out, when_accepted, when_refused}
-use Rattle.net.proofs.Places.{good_size, few_vertices}
+use Rattle.net.proofs.Faults.{Clear, carried_out, when_accepted}
 use Rattle.details.specs.Refusals.{clean_faults, clean_refusal}
 use Rattle.details.specs.Cleaning.{cleaned_details}
 use Rattle.details.proofs.DetailLaws.{clean_clear}

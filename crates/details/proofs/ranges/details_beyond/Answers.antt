@@ -1,7 +1,4 @@
 -- `details::ranges::details_beyond` meets its contract: the first numbers are those of the vertices.
-use native.Mathlib.Omega.{arith}
-use lib.Dec.{lit≤}
-use Rattle.net.proofs.Places.{good_size, few_vertices}
 use Rattle.details.specs.Refusals.{details_beyond}
 use Rattle.details.proofs.ranges.details_beyond.Goals as goal
 

@@ -1,15 +1,8 @@
 -- `details::ranges::first_outside` meets its contract: what was found is whether a number before i is outside the limit.
-use mathlib.Core.Path.{◌≡◌, refl, sym, ap, ◌∙◌}
-use mathlib.Core.Bool.{◌||◌}
-use Prim.Native.Nat.{ℕ, ◌-◌, ◌≤◌}
-use native.Mathlib.Omega.{arith}
-use lib.ListN.{get_or, take}
-use lib.IntN.{pos}
-use mir.Syntax.{w32}
-use borrow.Author.Rules.{rules}
-use Rattle.exact.proofs.SignedCode.{reads_back}
-use Rattle.net.specs.Refusals.{outside, any_outside}
-use Rattle.net.proofs.Ranges.{any_next}
+use mathlib.Core.Path.{◌≡◌}
+use Prim.Native.Nat.{◌-◌, ◌≤◌}
+use lib.ListN.{take}
+use Rattle.net.specs.Refusals.{any_outside}
 use Rattle.details.proofs.ranges.first_outside.Given as goal
 
 abbrev pub invariant-loop-i : goal.invariant-loop-i

@@ -1,5 +1,4 @@
 -- `details::storage::load_details` meets its contract.
-use borrow.Author.Rules.{rules}
 use Rattle.details.specs.Details.{detail_triangle}
 use Rattle.details.proofs.storage.load_details.Goals as goal
 

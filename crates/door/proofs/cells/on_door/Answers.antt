@@ -6,7 +6,6 @@ use Prim.Native.Nat.{ℕ, ◌/◌, ◌≤◌}
 use native.Mathlib.Omega.{arith}
 use native.Mathlib.Nat.{le_refl}
 use lib.ListN.{length}
-use borrow.Author.Rules.{rules}
 use Rattle.net.specs.Refusals.{bad_size}
 use Rattle.outline.specs.Outline.{triangles}
 use Rattle.door.specs.Cells.{Small}

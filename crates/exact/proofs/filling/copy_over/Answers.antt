@@ -1,8 +1,8 @@
 -- `exact::filling::copy_over` meets its contract: each iteration stores one run of one number more (`over_more`),
 -- and the runs of a list's numbers are the list.
 use mathlib.Core.Path.{◌≡◌, refl, sym, ◌∙◌, ap}
-use mathlib.Core.List.{List, [], ◌∷◌}
-use Prim.Native.Nat.{ℕ, ◌-◌, ◌≤◌}
+use mathlib.Core.List.{List}
+use Prim.Native.Nat.{ℕ}
 use native.Mathlib.Nat.{mul-one, le_refl}
 use native.Mathlib.Omega.{arith}
 use lib.ListN.{length, get_or, set}

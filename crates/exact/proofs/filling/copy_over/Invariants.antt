@@ -1,18 +1,11 @@
 -- `exact::filling::copy_over` meets its contract: each iteration stores one run of one number more (`over_more`),
 -- and the runs of a list's numbers are the list.
-use mathlib.Core.Path.{◌≡◌, refl, sym, ◌∙◌, ap}
+use mathlib.Core.Path.{◌≡◌}
 use mathlib.Core.List.{List, [], ◌∷◌}
 use Prim.Native.Nat.{ℕ, ◌-◌, ◌≤◌}
-use native.Mathlib.Nat.{mul-one, le_refl}
-use native.Mathlib.Omega.{arith}
-use lib.ListN.{length, get_or, set}
-use lib.Seq.{sets, take-length}
+use lib.ListN.{length, get_or}
 use lib.IntN.{ℤ, pos}
-use mir.Facts.{to_z-of_z}
-use mir.Syntax.{w32}
-use borrow.Author.Rules.{rules, sfits_of}
 use Rattle.exact.specs.Filling.{over, runs}
-use Rattle.exact.proofs.FillingLaws.{over_none, over_more, runs_of_list}
 use Rattle.exact.proofs.filling.copy_over.Given as goal
 
 -- the number at i, as a run

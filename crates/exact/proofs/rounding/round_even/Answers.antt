@@ -1,15 +1,13 @@
 -- `exact::rounding::round_even` meets its contract.
 use mathlib.Core.Path.{◌≡◌, ◌∙◌, ap}
-use Prim.Native.Nat.{ℕ, ◌+◌, ◌-◌, ◌*◌, ◌/◌, ◌^◌, ◌≤◌, ◌<◌}
-use native.Mathlib.Omega.{arith}
+use Prim.Native.Nat.{ℕ, ◌+◌, ◌-◌, ◌*◌, ◌/◌, ◌≤◌, ◌<◌}
 use lib.Dec.{ltb}
 use lib.IntN.{ℤ, pos, ◌+ℤ◌}
 use mir.Facts.{to_z-of_z}
 use mir.Syntax.{w64}
 use mir.Val.{bool_byte}
-use borrow.Author.Rules.{rules}
 use Rattle.exact.proofs.SignedCode.{reads_as}
-use Rattle.exact.proofs.RoundingLaws.{factors_few, byte_few, raised_few, quotient_few, rounded_raised}
+use Rattle.exact.proofs.RoundingLaws.{raised_few, quotient_few, rounded_raised}
 use Rattle.exact.proofs.rounding.round_even.Goals as goal
 use Rattle.exact.proofs.rounding.round_even.Goals.{After-raised-above}
 

@@ -8,11 +8,10 @@ use lib.IntN.{ℤ, pos, nat_abs, ◌+ℤ◌}
 use mir.Facts.{to_z-of_z}
 use mir.Syntax.{w32, w64}
 use mir.Val.{SFits, bool_byte, to_z, of_z}
-use borrow.Author.Rules.{rules}
 use Rattle.exact.specs.Rounding.{rounded}
 use Rattle.exact.proofs.SignedCode.{reads_as}
 use Rattle.exact.proofs.Sizes.{fits_of_size}
-use Rattle.exact.proofs.RoundingLaws.{rounded_size, factors_few, byte_few, raised_few, quotient_few, rounded_raised}
+use Rattle.exact.proofs.RoundingLaws.{rounded_size, factors_few, raised_few, quotient_few, rounded_raised}
 use Rattle.exact.proofs.rounding.round_even_narrow.Goals as goal
 use Rattle.exact.proofs.rounding.round_even_narrow.Goals.{After-lowered, After-raised-above, Start}
 

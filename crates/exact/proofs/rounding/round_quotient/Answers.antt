@@ -11,13 +11,12 @@ use lib.Signed.{quot_z, ◌≤ℤ◌, ◌<ℤ◌}
 use mir.Syntax.{w64}
 use mir.Val.{SFits, hbits, to_z}
 use mir.Facts.{to_z-of_z, to_z_pos}
-use borrow.Author.Rules.{rules}
 use Rattle.exact.specs.Rounding.{floor_quotient, rounded}
 use Rattle.exact.proofs.Parts.{integers}
-use Rattle.exact.proofs.Expressions.{Expr, var, lit, ◌⊕◌, ◌⊖◌, ◌⊗◌, value, plus, minus, times}
+use Rattle.exact.proofs.Expressions.{Expr, var, lit, ◌⊕◌, ◌⊖◌, ◌⊗◌, value}
 use Rattle.exact.proofs.Linear.{expression_parts}
 use Rattle.exact.proofs.Sizes.{fits_of_size}
-use Rattle.exact.proofs.SignedCode.{Leaf, of_number, of_unsigned, exacts, held, stays, reads_exact, operation_fits, less_taken, less_left}
+use Rattle.exact.proofs.SignedCode.{Leaf, of_number, of_unsigned, exacts, held, stays, reads_exact, less_taken, less_left}
 use Rattle.exact.proofs.RoundingLaws.{rounded_size}
 use Rattle.exact.proofs.rounding.round_quotient.Goals as goal
 use Rattle.exact.proofs.rounding.round_quotient.Goals.{Else-n-lt0, Start, Then-n-lt0}

@@ -1,14 +1,13 @@
 -- `exact::sums::weighted_sum` meets its contract. The loop's invariant: the sum so far and the weighted sum of the rest
 -- are the whole sum, and the sum so far is at most 2 ^ 57 in size for each term.
-use mathlib.Core.Path.{◌≡◌, refl, sym, ◌∙◌, ap}
+use mathlib.Core.Path.{refl, sym, ◌∙◌, ap}
 use mathlib.Core.List.{List, [], ◌∷◌}
-use Prim.Native.Nat.{ℕ, ◌+◌, ◌-◌, ◌*◌, ◌^◌, ◌≤◌}
+use Prim.Native.Nat.{ℕ, ◌+◌, ◌*◌, ◌^◌, ◌≤◌}
 use native.Mathlib.Omega.{arith}
-use lib.ListN.{length, get_or, drop}
-use lib.IntN.{ℤ, pos, nat_abs, ◌+ℤ◌, ◌*ℤ◌, +ℤ_idl, +ℤ_idr}
+use lib.ListN.{get_or, drop}
+use lib.IntN.{ℤ, pos, nat_abs, ◌+ℤ◌, ◌*ℤ◌, +ℤ_idr}
 use mir.Syntax.{w32, w64}
 use mir.Val.{SFits, to_z}
-use mir.Facts.{to_z-of_z, sfits_widen}
 use borrow.Author.Rules.{rules, sfits_of}
 use Rattle.exact.specs.WeightedSum.{weighted_sum}
 use Rattle.exact.proofs.Expressions.{Expr, var, ◌⊕◌, ◌⊗◌, plus, times}

@@ -1,15 +1,10 @@
 -- `fine_outline::rows::write_cell` meets its contract: each iteration stores one byte more.
-use mathlib.Core.Path.{◌≡◌, refl, sym, ap, ◌∙◌}
-use mathlib.Core.Bool.{cond}
-use mathlib.Core.List.{List, [], ◌∷◌}
-use Prim.Native.Nat.{ℕ, ◌+◌, ◌-◌, ◌*◌, ◌/◌, ◌%◌, ◌≤◌}
+use mathlib.Core.Path.{refl, sym, ◌∙◌}
+use Prim.Native.Nat.{◌+◌, ◌-◌}
 use native.Mathlib.Nat.{mul-one}
 use native.Mathlib.Omega.{arith}
-use lib.Dec.{leb}
-use lib.ListN.{length, set}
-use lib.Seq.{sets}
+use lib.ListN.{set}
 use borrow.Author.Rules.{rules}
-use Rattle.exact.specs.Filling.{runs}
 use Rattle.exact.proofs.FillingLaws.{runs_none, runs_more}
 use Rattle.fine_outline.proofs.rows.write_cell.Invariants.{byte_at}
 use Rattle.fine_outline.proofs.rows.write_cell.Goals as goal

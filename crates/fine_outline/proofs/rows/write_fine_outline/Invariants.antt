@@ -1,18 +1,10 @@
 -- `fine_outline::rows::write_fine_outline` meets its contract: each iteration stores one row more, and the rows are the
 -- fine outline (`by_rows_lem`).
-use mathlib.Core.Path.{◌≡◌, refl, ap, ◌∙◌}
-use mathlib.Core.List.{List}
-use Prim.Native.Nat.{ℕ, ◌+◌, ◌-◌, ◌*◌, ◌^◌, ◌≤◌}
-use native.Mathlib.Nat.{mul-le-mul_right}
-use native.Mathlib.Omega.{arith}
-use lib.Dec.{lit≤}
+use mathlib.Core.Path.{◌≡◌}
+use Prim.Native.Nat.{◌-◌, ◌≤◌}
 use lib.ListN.{length}
-use borrow.Author.Rules.{rules}
 use Rattle.exact.specs.Filling.{over, runs}
-use Rattle.exact.proofs.FillingLaws.{over_none}
-use Rattle.steps.proofs.Sides.{side_cells}
-use Rattle.fine_outline.specs.Rows.{row_run, RowReady}
-use Rattle.fine_outline.proofs.RowLaws.{by_rows_lem, row_ready, rows_more}
+use Rattle.fine_outline.specs.Rows.{row_run}
 use Rattle.fine_outline.proofs.rows.write_fine_outline.Given as goal
 
 abbrev pub invariant-loop-r : goal.invariant-loop-r

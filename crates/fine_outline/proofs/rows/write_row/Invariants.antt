@@ -1,16 +1,10 @@
 -- `fine_outline::rows::write_row` meets its contract: each iteration stores the part of one cell more.
-use mathlib.Core.Path.{◌≡◌, refl, ap, ◌∙◌}
-use mathlib.Core.List.{List}
-use Prim.Native.Nat.{ℕ, ◌+◌, ◌-◌, ◌*◌, ◌/◌, ◌≤◌, ◌<◌}
-use native.Mathlib.Nat.{mod-lt}
-use native.Mathlib.Omega.{arith}
+use mathlib.Core.Path.{◌≡◌}
+use Prim.Native.Nat.{◌-◌, ◌≤◌}
 use lib.ListN.{length}
 use lib.Seq.{sets}
-use borrow.Author.Rules.{rules}
 use Rattle.exact.specs.Filling.{runs}
-use Rattle.exact.proofs.FillingLaws.{runs_none}
 use Rattle.fine_outline.specs.Rows.{part_run}
-use Rattle.fine_outline.proofs.RowLaws.{parts_more, row_length, all_length, few_before, row_ends, cell_bytes, part_ends}
 use Rattle.fine_outline.proofs.rows.write_row.Given as goal
 
 abbrev pub invariant-loop-i : goal.invariant-loop-i

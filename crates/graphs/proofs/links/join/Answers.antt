@@ -4,7 +4,6 @@ use mathlib.Core.List.{List}
 use Prim.Native.Nat.{ℕ, ◌≤◌, ◌<◌, min, max}
 use native.Mathlib.Omega.{arith}
 use lib.ListN.{length, set}
-use borrow.Author.Rules.{rules}
 use Rattle.graphs.specs.Links.{JoinedAt}
 use Rattle.graphs.proofs.LinkLaws.{root_below}
 use Rattle.graphs.proofs.links.join.Goals as goal

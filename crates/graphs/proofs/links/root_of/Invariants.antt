@@ -1,11 +1,8 @@
 -- `graphs::links::root_of` meets its contract: the root of r is the root of t, and `up` is the link of r.
-use mathlib.Core.Path.{◌≡◌, refl, subst}
+use mathlib.Core.Path.{◌≡◌}
 use Prim.Native.Nat.{ℕ, ◌<◌}
-use native.Mathlib.Omega.{arith}
 use lib.ListN.{length}
-use borrow.Author.Rules.{rules}
-use Rattle.graphs.specs.Links.{link, Root, further}
-use Rattle.graphs.proofs.LinkLaws.{root_here}
+use Rattle.graphs.specs.Links.{link, Root}
 use Rattle.graphs.proofs.links.root_of.Given as goal
 
 abbrev pub invariant-loop-up : goal.invariant-loop-up

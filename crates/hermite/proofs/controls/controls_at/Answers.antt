@@ -1,7 +1,6 @@
 -- `hermite::controls::controls_at` meets its contract.
 use mathlib.Core.List.{[], ◌∷◌}
 use mathlib.Core.Path.{◌∙◌}
-use borrow.Author.Rules.{rules}
 use Rattle.hermite.specs.Given.{vectors_at}
 use Rattle.hermite.specs.Sums.{sum_point, difference_point}
 use Rattle.hermite.proofs.controls.controls_at.Goals as goal

@@ -4,11 +4,10 @@ use mathlib.Core.Bool.{false}
 use mathlib.Core.List.{[], ◌∷◌}
 use Prim.Native.Nat.{ℕ}
 use lib.IntN.{ℤ}
-use borrow.Author.Rules.{rules}
 use Rattle.net.specs.Net.{number}
 use Rattle.net.specs.Refusals.{beyond}
 use Rattle.net.proofs.Faults.{or_none}
-use Rattle.hermite.proofs.WideNumbers.{narrows, narrowed}
+use Rattle.hermite.proofs.WideNumbers.{narrowed}
 use Rattle.hermite.proofs.controls.narrow_point.Goals as goal
 use Rattle.hermite.proofs.controls.narrow_point.Goals.{Start}
 

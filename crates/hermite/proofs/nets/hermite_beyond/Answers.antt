@@ -2,16 +2,15 @@
 use mathlib.Core.Path.{◌≡◌, refl, sym, ap, ◌∙◌}
 use mathlib.Core.Bool.{false}
 use mathlib.Core.List.{List}
-use Prim.Native.Nat.{ℕ, ◌-◌, ◌*◌, ◌≤◌}
+use Prim.Native.Nat.{ℕ, ◌-◌, ◌*◌}
 use native.Mathlib.Omega.{arith}
 use lib.IntN.{ℤ}
 use borrow.Author.Rules.{rules}
 use Rattle.exact.specs.Filling.{runs}
 use Rattle.net.specs.Refusals.{net_limit, any_beyond, controls_beyond}
-use Rattle.net.proofs.Places.{good_size, few_vertices}
 use Rattle.net.proofs.Ranges.{any_more, any_in_runs}
 use Rattle.hermite.specs.Sums.{nine_of}
-use Rattle.hermite.proofs.HermiteLaws.{hermite_run, hermite_tested, given_vertex, triangle_tested}
+use Rattle.hermite.proofs.HermiteLaws.{hermite_run, hermite_tested, triangle_tested}
 use Rattle.hermite.proofs.nets.hermite_beyond.Goals as goal
 use Rattle.hermite.proofs.nets.hermite_beyond.Goals.{After-triangle_beyond}
 

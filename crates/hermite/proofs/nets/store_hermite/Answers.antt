@@ -12,11 +12,10 @@ use Rattle.exact.specs.Filling.{over, runs}
 use Rattle.exact.proofs.FillingLaws.{over_none, over_more}
 use Rattle.net.specs.Net.{stride, vertex_of}
 use Rattle.net.specs.Refusals.{controls_beyond}
-use Rattle.net.proofs.Places.{good_size, few_vertices}
 use Rattle.steps.proofs.RefinedVertices.{stored_triangle}
 use Rattle.hermite.specs.HermiteNet.{hermite_fields}
 use Rattle.hermite.specs.Sums.{nine_of}
-use Rattle.hermite.proofs.HermiteLaws.{hermite_run, hermite_by_number, given_vertex, triangle_there, triangle_in_range}
+use Rattle.hermite.proofs.HermiteLaws.{hermite_run, hermite_by_number, triangle_there, triangle_in_range}
 use Rattle.hermite.proofs.nets.store_hermite.Goals as goal
 
 pub loop-n-init : goal.loop-n-init

@@ -1,22 +1,9 @@
 -- `hermite::nets::store_hermite` meets its contract.
-use mathlib.Core.List.{List}
-use mathlib.Core.Path.{◌≡◌, refl, sym, ap, ◌∙◌}
-use Prim.Native.Nat.{ℕ, ◌+◌, ◌-◌, ◌*◌, ◌≤◌}
-use native.Mathlib.Nat.{mul_comm}
-use native.Mathlib.Omega.{arith}
-use lib.IntN.{ℤ}
+use mathlib.Core.Path.{◌≡◌}
+use Prim.Native.Nat.{◌-◌, ◌≤◌}
 use lib.ListN.{length}
-use lib.Seq.{sets}
-use borrow.Author.Rules.{rules}
 use Rattle.exact.specs.Filling.{over, runs}
-use Rattle.exact.proofs.FillingLaws.{over_none, over_more}
-use Rattle.net.specs.Net.{stride, vertex_of}
-use Rattle.net.specs.Refusals.{controls_beyond}
-use Rattle.net.proofs.Places.{good_size, few_vertices}
-use Rattle.steps.proofs.RefinedVertices.{stored_triangle}
-use Rattle.hermite.specs.HermiteNet.{hermite_fields}
-use Rattle.hermite.specs.Sums.{nine_of}
-use Rattle.hermite.proofs.HermiteLaws.{hermite_run, hermite_by_number, given_vertex, triangle_there, triangle_in_range}
+use Rattle.hermite.proofs.HermiteLaws.{hermite_run}
 use Rattle.hermite.proofs.nets.store_hermite.Given as goal
 
 abbrev pub invariant-loop-n : goal.invariant-loop-n

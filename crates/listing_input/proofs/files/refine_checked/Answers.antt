@@ -3,10 +3,8 @@ use mathlib.Core.Path.{◌≡◌, refl, sym, ap, subst, ◌∙◌}
 use mathlib.Core.Bool.{false}
 use mathlib.Core.List.{List, [], ◌∷◌}
 use Prim.Native.Nat.{ℕ}
-use native.Mathlib.Omega.{arith}
 use lib.IntN.{ℤ}
 use lib.ListN.{length, get_or}
-use borrow.Author.Rules.{rules}
 use Rattle.exact.specs.Filling.{over}
 use Rattle.net.specs.Refusals.{bad_size, output_after, AcceptedNet}
 use Rattle.net.proofs.Faults.{answered, accepted_answer, refused_answer, when_accepted, when_refused}

@@ -3,7 +3,6 @@ use mathlib.Core.Path.{◌≡◌, sym, ap, ◌∙◌}
 use mathlib.Core.List.{[], ◌∷◌}
 use lib.Dec.{lit<}
 use lib.ListN.{length}
-use borrow.Author.Rules.{rules}
 use Rattle.exact.specs.Filling.{over}
 use Rattle.net.proofs.Faults.{not_accepted, refused_answer, when_refused}
 use Rattle.subdivision.specs.Refinement.{refined_side}

@@ -6,7 +6,6 @@ use native.Mathlib.Nat.{lt_trans}
 use native.Mathlib.Omega.{arith}
 use lib.Dec.{lit<}
 use lib.ListN.{length}
-use borrow.Author.Rules.{rules}
 use Rattle.decimal.specs.Decimal.{decimal}
 use Rattle.decimal.specs.Storing.{Stored}
 use Rattle.decimal.proofs.StoringLaws.{stored_as, stored_then, stored_line, room_then}
@@ -40,4 +39,4 @@ returns c =
     c.store_count.result =
     stored_as (stored_then word.store_text-a.ensures c.store_count.ensures)
     (refusal_parts start.args.n) in
-    stored_line stored (short start) start.requires) in record { out_after = p.0; value = p.1.0; upper_bound = p.1.1; }
+    stored_line stored (short start) start.requires) in record { out_after = p.0; value = p.1.0; upper_bound = p.1.1 }

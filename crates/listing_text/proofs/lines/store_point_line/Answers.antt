@@ -9,7 +9,6 @@ use lib.ListN.{length}
 use mir.Facts.{to_z-of_z}
 use mir.Syntax.{w32}
 use mir.Val.{to_z, of_z}
-use borrow.Author.Rules.{rules}
 use Rattle.decimal.specs.Decimal.{decimal, signed_decimal}
 use Rattle.decimal.specs.Storing.{Stored}
 use Rattle.decimal.proofs.StoringLaws.{stored_as, stored_then, room_first, room_then}

@@ -1,11 +1,11 @@
 -- `listing_text::lines::store_text` meets its contract: each iteration stores one byte more of the text.
-use mathlib.Core.Path.{◌≡◌, refl, sym, ap, ◌∙◌}
+use mathlib.Core.Path.{refl, sym, ap, ◌∙◌}
 use mathlib.Core.List.{[], ◌∷◌}
-use Prim.Native.Nat.{ℕ, ◌+◌, ◌-◌, ◌≤◌}
+use Prim.Native.Nat.{ℕ, ◌+◌, ◌-◌}
 use native.Mathlib.Numerals.{add-one}
 use native.Mathlib.Omega.{arith}
-use lib.ListN.{length, take, get_or, set}
-use lib.Seq.{take-suc, take-length}
+use lib.ListN.{take, get_or, set}
+use lib.Seq.{take-suc}
 use borrow.Author.Rules.{rules}
 use Rattle.decimal.specs.Storing.{Stored}
 use Rattle.decimal.proofs.StoringLaws.{stored_as, stored_then}

@@ -1,14 +1,8 @@
 -- `listing_text::lines::store_text` meets its contract: each iteration stores one byte more of the text.
-use mathlib.Core.Path.{◌≡◌, refl, sym, ap, ◌∙◌}
-use mathlib.Core.List.{[], ◌∷◌}
-use Prim.Native.Nat.{ℕ, ◌+◌, ◌-◌, ◌≤◌}
-use native.Mathlib.Numerals.{add-one}
-use native.Mathlib.Omega.{arith}
-use lib.ListN.{length, take, get_or, set}
-use lib.Seq.{take-suc, take-length}
-use borrow.Author.Rules.{rules}
+use mathlib.Core.Path.{◌≡◌}
+use Prim.Native.Nat.{◌-◌, ◌≤◌}
+use lib.ListN.{length, take}
 use Rattle.decimal.specs.Storing.{Stored}
-use Rattle.decimal.proofs.StoringLaws.{stored_as, stored_then}
 use Rattle.listing_text.proofs.lines.store_text.Given as goal
 
 abbrev pub invariant-loop-i : goal.invariant-loop-i

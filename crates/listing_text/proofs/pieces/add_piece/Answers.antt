@@ -5,7 +5,6 @@ use mathlib.Core.List.{List, ◌++◌}
 use Prim.Native.Nat.{ℕ, ◌-◌}
 use native.Mathlib.Omega.{arith}
 use lib.ListN.{length, take, drop}
-use borrow.Author.Rules.{rules}
 use Rattle.listing_text.specs.Listing.{piece_text}
 use Rattle.listing_text.proofs.PieceLaws.{stored_in_part}
 use Rattle.listing_text.proofs.pieces.add_piece.Goals as goal

@@ -132,7 +132,7 @@ returns-then-n-eq0 c =
     let start = (goal.at.returns-then-n-eq0 c).Start in
     let piece = first_piece start.args.net.now start.args.w start.args.h t.if-n-eq0.true in
     stored_line (stored_as c.store_head_line.ensures piece)
-    (omega (arith, sym (ap length piece), short_head start)) start.requires.2) in record { out_after = p.0; value = p.1.0; upper_bound = p.1.1; }
+    (omega (arith, sym (ap length piece), short_head start)) start.requires.2) in record { out_after = p.0; value = p.1.0; upper_bound = p.1.1 }
 
 pub store_point_line-requires : goal.store_point_line-requires
 store_point_line-requires c = le_trans (short c) (start (e c)).requires.2
@@ -145,7 +145,7 @@ returns-in-At c =
     let p = (let k = (goal.at.returns-in-At c).After-struct_told-in-At-2-1 in
     stored_line (stored_as {xs =
     line k} c.store_point_line.ensures (line_is k))
-    (omega (arith, sym (ap length (line_is k)), short k)) (start (e k)).requires.2) in record { out_after = p.0; value = p.1.0; upper_bound = p.1.1; }
+    (omega (arith, sym (ap length (line_is k)), short k)) (start (e k)).requires.2) in record { out_after = p.0; value = p.1.0; upper_bound = p.1.1 }
 
 -- no point is refused
 pub returns-in-Refused : goal.returns-in-Refused

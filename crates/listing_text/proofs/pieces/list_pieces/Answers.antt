@@ -1,15 +1,12 @@
 -- `listing_text::pieces::list_pieces` meets its contract: each iteration collects one piece more.
 use mathlib.Core.Path.{◌≡◌, refl}
 use mathlib.Core.List.{List}
-use Prim.Native.Nat.{ℕ, ◌+◌, ◌-◌, ◌*◌, ◌≤◌, ◌<◌}
+use Prim.Native.Nat.{ℕ, ◌+◌, ◌-◌, ◌≤◌, ◌<◌}
 use native.Mathlib.Nat.{le_refl}
 use native.Mathlib.Omega.{arith}
 use lib.ListN.{length}
 use borrow.Author.Rules.{rules}
-use borrow.Author.Tests.{leb-true, leb-false}
 use Rattle.exact.specs.Filling.{over}
-use Rattle.net.proofs.Places.{good_size, few_vertices}
-use Rattle.decimal.specs.Storing.{Stored}
 use Rattle.decimal.proofs.StoringLaws.{stored_as, stored_then, stored_line}
 use Rattle.listing_text.specs.Listing.{pieces_text, longest_line}
 use Rattle.listing_text.specs.Collected.{PiecesContract}

@@ -1,6 +1,5 @@
 -- `merge::sums::merged_beyond` meets its contract.
 use mathlib.Core.Path.{sym, ◌∙◌}
-use borrow.Author.Rules.{rules}
 use Rattle.net.proofs.Faults.{or_none}
 use Rattle.merge.proofs.MergeLaws.{small_merged}
 use Rattle.merge.proofs.sums.merged_beyond.Goals as goal

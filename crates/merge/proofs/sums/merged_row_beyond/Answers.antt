@@ -1,6 +1,5 @@
 -- `merge::sums::merged_row_beyond` meets its contract.
 use mathlib.Core.Path.{ap, ◌∙◌}
-use borrow.Author.Rules.{rules}
 use Rattle.net.specs.Refusals.{any_beyond}
 use Rattle.merge.proofs.MergeLaws.{row_mergeable, merged_row}
 use Rattle.merge.proofs.sums.merged_row_beyond.Goals as goal

@@ -1,18 +1,12 @@
 -- `merge::sums::rows_beyond` meets its contract: what was found is whether a number before row j is beyond the range.
-use mathlib.Core.Path.{◌≡◌, refl, sym, ap, ◌∙◌}
-use mathlib.Core.Bool.{◌||◌}
-use Prim.Native.Nat.{ℕ, ◌-◌, ◌≤◌}
-use native.Mathlib.Omega.{arith}
+use mathlib.Core.Path.{◌≡◌}
+use Prim.Native.Nat.{◌-◌, ◌≤◌}
 use lib.ListN.{length}
-use borrow.Author.Rules.{rules}
 use Rattle.exact.specs.Filling.{runs}
-use Rattle.net.specs.Net.{grid}
-use Rattle.net.specs.Refusals.{net_limit, any_beyond}
-use Rattle.net.proofs.Ranges.{any_collected}
+use Rattle.net.specs.Refusals.{any_beyond}
 use Rattle.subdivision.specs.Refinement.{refined_side}
-use Rattle.steps.specs.RefinedNet.{row_run, stored}
-use Rattle.steps.proofs.StoredNets.{stored_tested}
-use Rattle.merge.specs.Merge.{merged_fields, merged_net}
+use Rattle.steps.specs.RefinedNet.{row_run}
+use Rattle.merge.specs.Merge.{merged_fields}
 use Rattle.merge.proofs.sums.rows_beyond.Given as goal
 
 abbrev pub invariant-loop-j : goal.invariant-loop-j

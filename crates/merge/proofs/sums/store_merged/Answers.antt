@@ -1,5 +1,5 @@
 -- `merge::sums::store_merged` meets its contract.
-use mathlib.Core.Path.{◌≡◌, refl, sym, ap, ◌∙◌}
+use mathlib.Core.Path.{◌≡◌, refl, ap, ◌∙◌}
 use Prim.Native.Nat.{ℕ, ◌+◌, ◌-◌, ◌*◌, ◌≤◌}
 use native.Mathlib.Nat.{mul_assoc, mul_comm, mul-le-mul, le_refl}
 use native.Mathlib.Omega.{arith}

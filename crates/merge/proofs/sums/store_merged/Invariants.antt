@@ -1,18 +1,11 @@
 -- `merge::sums::store_merged` meets its contract.
-use mathlib.Core.Path.{◌≡◌, refl, sym, ap, ◌∙◌}
-use Prim.Native.Nat.{ℕ, ◌+◌, ◌-◌, ◌*◌, ◌≤◌}
-use native.Mathlib.Nat.{mul_assoc, mul_comm, mul-le-mul, le_refl}
-use native.Mathlib.Omega.{arith}
+use mathlib.Core.Path.{◌≡◌}
+use Prim.Native.Nat.{◌-◌, ◌≤◌}
 use lib.ListN.{length}
-use lib.Seq.{sets}
-use borrow.Author.Rules.{rules}
 use Rattle.exact.specs.Filling.{over, runs}
-use Rattle.exact.proofs.FillingLaws.{over_none, over_more}
-use Rattle.net.specs.Net.{stride, grid}
-use Rattle.net.proofs.Grids.{row_length}
 use Rattle.subdivision.specs.Refinement.{refined_side}
-use Rattle.steps.specs.RefinedNet.{vertex_run, row_run, stored}
-use Rattle.merge.specs.Merge.{merged_fields, merged_net}
+use Rattle.steps.specs.RefinedNet.{row_run}
+use Rattle.merge.specs.Merge.{merged_fields}
 use Rattle.merge.proofs.sums.store_merged.Given as goal
 
 abbrev pub invariant-loop-j : goal.invariant-loop-j

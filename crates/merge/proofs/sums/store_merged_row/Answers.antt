@@ -2,7 +2,6 @@
 use mathlib.Core.Path.{ap, ◌∙◌}
 use Prim.Native.Nat.{◌*◌}
 use lib.Seq.{sets}
-use borrow.Author.Rules.{rules}
 use Rattle.net.specs.Net.{stride}
 use Rattle.subdivision.specs.Refinement.{refined_side}
 use Rattle.merge.proofs.MergeLaws.{row_mergeable, merged_row}

@@ -1,19 +1,13 @@
 -- `merge::sums::store_sums` meets its contract.
-use mathlib.Core.Path.{◌≡◌, refl, ap, ◌∙◌}
+use mathlib.Core.Path.{◌≡◌}
 use mathlib.Core.List.{List}
-use Prim.Native.Nat.{ℕ, ◌+◌, ◌-◌, ◌*◌, ◌≤◌}
-use native.Mathlib.Nat.{mul_comm, mul-le-mul}
-use native.Mathlib.Omega.{arith}
+use Prim.Native.Nat.{ℕ, ◌-◌, ◌≤◌}
 use lib.IntN.{ℤ}
 use lib.ListN.{length}
 use lib.Seq.{sets}
-use borrow.Author.Rules.{rules}
 use Rattle.exact.specs.Filling.{runs}
-use Rattle.exact.proofs.FillingLaws.{runs_none, runs_more}
-use Rattle.net.specs.Net.{vertex_at, stride}
-use Rattle.net.proofs.Places.{GoodSize, good_size, vertex_ends}
+use Rattle.net.specs.Net.{vertex_at}
 use Rattle.steps.specs.RefinedNet.{vertex_run}
-use Rattle.steps.proofs.RefinedVertices.{stored_triangle}
 use Rattle.merge.specs.Merge.{row_sums}
 use Rattle.merge.proofs.sums.store_sums.Given as goal
 

@@ -1,15 +1,11 @@
 -- `merge::sums::sums_beyond` meets its contract: what was found is whether a sum before column i is beyond the range.
-use mathlib.Core.Path.{◌≡◌, refl, sym, ap, ◌∙◌}
-use mathlib.Core.Bool.{◌||◌}
+use mathlib.Core.Path.{◌≡◌}
 use mathlib.Core.List.{List}
 use Prim.Native.Nat.{ℕ, ◌-◌, ◌≤◌}
-use native.Mathlib.Omega.{arith}
 use lib.IntN.{ℤ}
-use borrow.Author.Rules.{rules}
 use Rattle.exact.specs.Filling.{runs}
 use Rattle.net.specs.Net.{vertex_at}
-use Rattle.net.specs.Refusals.{net_limit, any_beyond, controls_beyond}
-use Rattle.net.proofs.Ranges.{any_collected}
+use Rattle.net.specs.Refusals.{any_beyond}
 use Rattle.steps.specs.RefinedNet.{vertex_run}
 use Rattle.merge.specs.Merge.{row_sums}
 use Rattle.merge.proofs.sums.sums_beyond.Given as goal

@@ -1,6 +1,5 @@
 -- `merge::sums::sums_of` meets its contract.
-use borrow.Author.Rules.{rules}
-use Rattle.net.specs.Net.{one, two, three}
+use Rattle.net.specs.Net.{two, three}
 use Rattle.merge.proofs.sums.sums_of.Goals as goal
 
 pub sum_point-c2-requires : goal.sum_point-c2-requires

@@ -1,10 +1,8 @@
 -- `merge::sums::vertex_sums` meets its contract.
-use mathlib.Core.Path.{sym, subst, ◌∙◌}
-use native.Mathlib.Omega.{arith}
+use mathlib.Core.Path.{sym, subst}
 use Rattle.net.specs.Refusals.{net_limit, ControlsWithin}
 use Rattle.details.specs.Refusals.{detail_limit}
-use Rattle.details.proofs.DetailLaws.{detail_ends, detail_size}
-use Rattle.merge.specs.Merge.{sums}
+use Rattle.details.proofs.DetailLaws.{detail_size}
 use Rattle.merge.proofs.sums.vertex_sums.Goals as goal
 
 pub sums_of-requires : goal.sums_of-requires

@@ -7,7 +7,7 @@ use Rattle.net.proofs.Faults.{none_clear}
 use Rattle.details.specs.Refusals.{too_great}
 use Rattle.split.specs.Refusals.{odd_faults}
 use Rattle.split.specs.declared.answers.SplitAnswer.{SplitAnswer}
-use Rattle.multiresolution.proofs.CallLaws.{Split, known, First, cleaned_done, cleaned_refused, first_refused}
+use Rattle.multiresolution.proofs.CallLaws.{Split, known, First, cleaned_done}
 use Rattle.multiresolution.proofs.cleaned.clean_net.Goals as goal
 use Rattle.multiresolution.proofs.cleaned.clean_net.Goals.{After-split_with-answer, Else-refusal-ne0, Start}
 

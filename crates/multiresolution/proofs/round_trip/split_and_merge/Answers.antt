@@ -1,10 +1,8 @@
 -- `multiresolution::round_trip::split_and_merge` meets its contract.
 use mathlib.Core.Path.{◌≡◌}
-use native.Mathlib.Omega.{arith}
 use borrow.Author.Rules.{rules}
-use Rattle.net.proofs.Places.{GoodSize, good_size}
 use Rattle.split.specs.declared.answers.SplitAnswer.{SplitAnswer}
-use Rattle.multiresolution.proofs.CallLaws.{Split, known, accepted_split, round_trip_done, round_trip_refused}
+use Rattle.multiresolution.proofs.CallLaws.{Split, known, round_trip_done}
 use Rattle.multiresolution.proofs.round_trip.split_and_merge.Goals as goal
 use Rattle.multiresolution.proofs.round_trip.split_and_merge.Goals.{After-split_with-answer, Start}
 

@@ -1,15 +1,13 @@
 -- `net::storage::any_beyond` meets its contract: what was found is whether a number before i is beyond the range.
-use mathlib.Core.Path.{◌≡◌, refl, sym, ap, ◌∙◌}
+use mathlib.Core.Path.{sym, ap, ◌∙◌}
 use mathlib.Core.Bool.{◌||◌}
-use Prim.Native.Nat.{◌-◌, ◌≤◌}
-use native.Mathlib.Omega.{arith}
+use Prim.Native.Nat.{◌-◌}
 use lib.IntN.{pos}
-use lib.ListN.{length, get_or, take}
-use lib.Seq.{take_all}
+use lib.ListN.{get_or}
 use mir.Syntax.{w32}
 use borrow.Author.Rules.{rules}
 use Rattle.exact.proofs.SignedCode.{reads_back}
-use Rattle.net.specs.Refusals.{net_limit, beyond, any_beyond}
+use Rattle.net.specs.Refusals.{net_limit, beyond}
 use Rattle.net.proofs.Ranges.{any_next}
 use Rattle.net.proofs.storage.any_beyond.Goals as goal
 

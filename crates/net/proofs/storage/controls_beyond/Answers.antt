@@ -3,7 +3,6 @@ use mathlib.Core.Path.{sym, ◌∙◌}
 use mathlib.Core.Bool.{◌||◌}
 use mathlib.Core.List.{[]}
 use lib.ListN.{get_or}
-use borrow.Author.Rules.{rules}
 use Rattle.net.specs.Refusals.{net_limit}
 use Rattle.net.proofs.Ranges.{any_three}
 use Rattle.net.proofs.storage.controls_beyond.Goals as goal

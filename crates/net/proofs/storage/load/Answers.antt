@@ -1,5 +1,3 @@
-
-use borrow.Author.Rules.{rules}
 use Rattle.net.specs.Net.{control_triangle}
 use Rattle.net.proofs.storage.load.Goals as goal
 

@@ -1,4 +1,3 @@
-
 use borrow.Author.Rules.{rules}
 use Rattle.net.specs.Net.{control_point}
 use Rattle.net.proofs.storage.load_point.Goals as goal

@@ -1,12 +1,10 @@
 -- `net::storage::net_beyond` meets its contract: the first numbers of a net are those of its vertices.
 use mathlib.Core.Path.{◌≡◌, ap, ◌∙◌}
-use Prim.Native.Nat.{ℕ, ◌*◌, ◌-◌, ◌≤◌}
+use Prim.Native.Nat.{ℕ, ◌-◌}
 use native.Mathlib.Omega.{arith}
 use lib.ListN.{take}
-use borrow.Author.Rules.{rules}
 use Rattle.net.specs.Net.{numbers}
 use Rattle.net.specs.Refusals.{any_beyond, net_beyond}
-use Rattle.net.proofs.Places.{good_size, few_vertices}
 use Rattle.net.proofs.storage.net_beyond.Goals as goal
 
 pub returns : goal.returns

@@ -6,10 +6,9 @@ use mathlib.Core.List.{List}
 use Prim.Native.Nat.{ℕ}
 use lib.IntN.{ℤ}
 use lib.ListN.{length}
-use borrow.Author.Rules.{rules}
 use Rattle.writer.specs.Refusals.{no_room}
 use Rattle.writer.specs.Answers.{write_outcome, write_answer_with, write_output_with}
-use Rattle.netfile.proofs.CopyLaws.{short, part_there, copied, not_copied}
+use Rattle.netfile.proofs.CopyLaws.{short, copied}
 use Rattle.netfile.proofs.copying.copy_through_file.Goals as goal
 use Rattle.netfile.proofs.copying.copy_through_file.Goals.{After-write_with-written}
 

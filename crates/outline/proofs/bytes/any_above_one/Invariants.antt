@@ -1,13 +1,9 @@
 -- `outline::bytes::any_above_one` meets its contract: a byte above 1, if any, was found or lies at i or after it.
-use mathlib.Core.Path.{◌≡◌, refl, sym, ap, ◌∙◌}
-use mathlib.Core.Bool.{Bool, true, false, ◌||◌}
-use mathlib.Core.List.{List}
-use Prim.Native.Nat.{ℕ, ◌-◌, ◌≤◌}
-use native.Mathlib.Omega.{arith}
-use lib.ListN.{length, drop, drop_of_length-le}
-use borrow.Author.Rules.{rules}
+use mathlib.Core.Path.{◌≡◌}
+use mathlib.Core.Bool.{◌||◌}
+use Prim.Native.Nat.{◌-◌, ◌≤◌}
+use lib.ListN.{length, drop}
 use Rattle.outline.specs.Refusals.{any_above_one}
-use Rattle.outline.proofs.ByteLaws.{tested_more}
 use Rattle.outline.proofs.bytes.any_above_one.Given as goal
 
 abbrev pub invariant-loop-i : goal.invariant-loop-i

@@ -1,10 +1,7 @@
 -- `outline::bytes::bad_byte` meets its contract: the bytes of the net's triangles are the front of the outline.
-use mathlib.Core.Path.{sym, ap, ◌∙◌}
+use mathlib.Core.Path.{ap, ◌∙◌}
 use Prim.Native.Nat.{ℕ}
-use native.Mathlib.Omega.{arith}
 use lib.ListN.{take}
-use lib.Seq.{length-take-le}
-use borrow.Author.Rules.{rules}
 use Rattle.outline.specs.Refusals.{any_above_one, bad_byte}
 use Rattle.outline.proofs.bytes.bad_byte.Goals as goal
 

@@ -2,13 +2,10 @@
 -- and then one root tells (`search_judged`).
 use mathlib.Core.Path.{sym, subst}
 use mathlib.Core.Bool.{Bool}
-use native.Mathlib.Omega.{arith}
 use lib.ListN.{length}
-use borrow.Author.Rules.{rules}
 use Rattle.graphs.specs.Walks.{Judged}
 use Rattle.outline.specs.Connected.{Connected}
 use Rattle.outline.specs.Search.{Searched}
-use Rattle.outline.proofs.Numbers.{few_triangles}
 use Rattle.outline.proofs.SearchLaws.{searched_first, searched_on, search_judged}
 use Rattle.outline.proofs.search.connected_over.Goals as goal
 use Rattle.outline.proofs.search.connected_over.Goals.{After-join_cells, After-link_self, Start}

@@ -2,8 +2,6 @@
 use mathlib.Core.Bool.{true, false}
 use mathlib.Core.List.{List}
 use Prim.Native.Nat.{ℕ, ◌+◌, ◌-◌, ◌*◌, ◌≤◌}
-use native.Mathlib.Omega.{arith}
-use borrow.Author.Rules.{rules}
 use Rattle.net.specs.Net.{triangle_at}
 use Rattle.net.proofs.Places.{good_size}
 use Rattle.outline.specs.Outline.{triangles}

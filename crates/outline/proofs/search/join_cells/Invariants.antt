@@ -1,10 +1,6 @@
 -- `outline::search::join_cells` meets its contract: the loop has joined the rows before j.
 use Prim.Native.Nat.{◌+◌, ◌-◌, ◌≤◌}
-use native.Mathlib.Omega.{arith}
-use borrow.Author.Rules.{rules}
-use Rattle.net.proofs.Places.{good_size}
 use Rattle.outline.specs.Search.{Joined, InRowsBefore}
-use Rattle.outline.proofs.SearchLaws.{next_row, searched_on, joined_none, joined_more, joined_all}
 use Rattle.outline.proofs.search.join_cells.Given as goal
 
 abbrev pub invariant-loop-j : goal.invariant-loop-j

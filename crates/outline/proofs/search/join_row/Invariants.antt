@@ -1,10 +1,6 @@
 -- `outline::search::join_row` meets its contract: the loop has joined the cells of the row before i.
 use Prim.Native.Nat.{◌+◌, ◌-◌, ◌≤◌}
-use native.Mathlib.Omega.{arith}
-use borrow.Author.Rules.{rules}
-use Rattle.net.proofs.Places.{good_size}
 use Rattle.outline.specs.Search.{Joined, InRowBefore}
-use Rattle.outline.proofs.SearchLaws.{next_cell, searched_on, joined_none, joined_more, joined_all}
 use Rattle.outline.proofs.search.join_row.Given as goal
 
 abbrev pub invariant-loop-i : goal.invariant-loop-i

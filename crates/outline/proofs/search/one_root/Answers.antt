@@ -1,14 +1,11 @@
 -- `outline::search::one_root` meets its contract: the loop has counted the roots before t.
-use mathlib.Core.Path.{◌≡◌, refl, sym, ap, ◌∙◌}
+use mathlib.Core.Path.{◌≡◌, refl, sym}
 use mathlib.Core.Bool.{Bool, true, false}
-use Prim.Native.Nat.{ℕ, ◌-◌, ◌≤◌}
+use Prim.Native.Nat.{◌-◌, ◌≤◌}
 use native.Mathlib.Omega.{arith}
-use lib.Dec.{eqb}
-use lib.ListN.{length}
 use mir.Val.{bool_byte}
-use borrow.Author.Rules.{rules}
 use Rattle.graphs.specs.Links.{bit}
-use Rattle.outline.specs.Search.{is_root, roots}
+use Rattle.outline.specs.Search.{is_root}
 use Rattle.graphs.proofs.LinkLaws.{count_start, count_more}
 use Rattle.outline.proofs.search.one_root.Goals as goal
 

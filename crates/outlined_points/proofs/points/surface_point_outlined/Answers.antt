@@ -1,5 +1,4 @@
 -- `outlined_points::points::surface_point_outlined` meets its contract: no output is too short.
-use borrow.Author.Rules.{rules}
 use Rattle.outlined_points.specs.Answers.{outlined_point_answer}
 use Rattle.outlined_points.proofs.points.surface_point_outlined.Goals as goal
 

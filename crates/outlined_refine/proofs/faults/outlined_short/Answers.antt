@@ -1,20 +1,12 @@
 -- `outlined_refine::faults::outlined_short` meets its contract.
-use mathlib.Core.Path.{◌≡◌, sym, ap, ◌∙◌}
-use mathlib.Core.Bool.{false}
+use mathlib.Core.Path.{◌∙◌}
 use Prim.Native.Nat.{ℕ}
-use native.Mathlib.Omega.{arith}
-use lib.Dec.{ltb}
-use borrow.Author.Rules.{rules}
-use borrow.Author.Tests.{lt-ltb, le-ltb}
 use Rattle.net.specs.Refusals.{bad_size}
-use Rattle.net.proofs.Faults.{or_yes, or_no}
 use Rattle.outline.specs.Outline.{triangles}
 use Rattle.subdivision.specs.Refinement.{side_after}
 use Rattle.steps.specs.Steps.{Depth}
-use Rattle.refine.specs.Refusals.{too_short}
 use Rattle.refine.proofs.Depths.{good_depth}
 use Rattle.steps.proofs.RefinedNets.{good_after}
-use Rattle.steps.proofs.Sides.{wide_ready, high_ready}
 use Rattle.outlined_refine.proofs.faults.outlined_short.Goals as goal
 use Rattle.outlined_refine.proofs.faults.outlined_short.Goals.{Start}
 

@@ -1,17 +1,14 @@
 -- `outlined_refined_points::faults::door_refusal` meets its contract: each branch is the first fault that is there.
-use mathlib.Core.Path.{◌≡◌, refl, sym, ap, ◌∙◌}
-use mathlib.Core.Bool.{not}
+use mathlib.Core.Path.{sym, ap, ◌∙◌}
 use mathlib.Core.List.{List, [], ◌∷◌}
 use Prim.Native.Nat.{ℕ}
 use native.Mathlib.Omega.{arith}
 use lib.Dec.{lit<}
-use borrow.Author.Rules.{rules}
 use borrow.Author.Tests.{ltb-false}
 use Rattle.net.specs.Refusals.{Fault, short_net}
-use Rattle.net.proofs.Faults.{Clear, none_clear, or_none, cond_true, cond_false, fault_before, fault_after}
+use Rattle.net.proofs.Faults.{Clear, none_clear, or_none}
 use Rattle.places.specs.Refusals.{no_place}
 use Rattle.outline.specs.Refusals.{short_outline, outlined_faults}
-use Rattle.door.specs.Door.{on_door}
 use Rattle.steps.specs.Steps.{Depth}
 use Rattle.bounds.specs.DemandThree.{fine_edge}
 use Rattle.refine.proofs.Depths.{good_depth}

@@ -5,12 +5,9 @@ use mathlib.Core.List.{List}
 use Prim.Native.Nat.{ℕ}
 use native.Mathlib.Omega.{arith}
 use lib.Dec.{lit<}
-use borrow.Author.Rules.{rules}
-use borrow.Author.Tests.{not-true, not-false}
 use Rattle.net.specs.Refusals.{Fault, first_fault}
 use Rattle.net.proofs.Faults.{Numbered, fault_before}
 use Rattle.outline.proofs.Searching.{search_kept, search_free_lem}
-use Rattle.refine.proofs.Depths.{good_depth}
 use Rattle.outlined_refine.specs.Refusals.{late_faults}
 use Rattle.outlined_refine.proofs.CallLaws.{refused_apart, refused_range}
 use Rattle.outlined_refined_points.specs.Answers.{point_faults_of, outlined_refusal_at}

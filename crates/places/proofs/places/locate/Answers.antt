@@ -1,9 +1,7 @@
 -- `places::places::locate` meets its contract.
 use mathlib.Core.Bool.{true, false}
 use borrow.Author.Tests.{lt-ltb, le-ltb}
-use borrow.Author.Rules.{rules}
-use Rattle.net.proofs.Places.{good_size}
-use Rattle.places.proofs.Cells.{in_cells, placed, left_at, sum_fits, left_over}
+use Rattle.places.proofs.Cells.{placed}
 use Rattle.places.proofs.places.locate.Goals as goal
 
 pub returns-then-f-g-gt1024 : goal.returns-then-f-g-gt1024

@@ -2,7 +2,6 @@
 use mathlib.Core.Path.{ap, ◌∙◌}
 use mathlib.Core.List.{[], ◌∷◌}
 use mir.Syntax.{w32}
-use borrow.Author.Rules.{rules}
 use Rattle.exact.proofs.SignedCode.{reads_as}
 use Rattle.words.specs.NetFile.{first_number, first_point}
 use Rattle.reader.proofs.Parsing.{part_from}

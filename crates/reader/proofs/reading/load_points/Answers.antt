@@ -1,12 +1,11 @@
 -- `reader::reading::load_points` meets its contract: each iteration stores one control point more.
-use mathlib.Core.Path.{◌≡◌, refl, ap, ◌∙◌}
-use Prim.Native.Nat.{ℕ, ◌+◌, ◌-◌, ◌*◌, ◌≤◌}
+use mathlib.Core.Path.{refl, ap, ◌∙◌}
+use Prim.Native.Nat.{◌+◌, ◌-◌, ◌*◌, ◌≤◌}
 use native.Mathlib.Omega.{arith}
 use native.Mathlib.Nat.{mul_comm}
-use lib.ListN.{length, length-drop}
+use lib.ListN.{length}
 use lib.Seq.{sets}
 use borrow.Author.Rules.{rules}
-use Rattle.exact.specs.Filling.{runs, over}
 use Rattle.exact.proofs.FillingLaws.{over_none, over_more}
 use Rattle.net.specs.Net.{point_stride}
 use Rattle.words.specs.NetFile.{first_point, from_point, head_size, point_size}

@@ -1,10 +1,9 @@
 -- `reader::reading::points_refusal` meets its contract: where the file ends in a control point, that one is refused.
-use mathlib.Core.Path.{◌≡◌, sym, ap, ◌∙◌}
+use mathlib.Core.Path.{◌≡◌, ap, ◌∙◌}
 use mathlib.Core.List.{List}
 use Prim.Native.Nat.{ℕ, ◌+◌, ◌-◌, ◌*◌, ◌/◌, ◌<◌, min}
 use native.Mathlib.Omega.{arith}
 use lib.ListN.{length, length-drop}
-use borrow.Author.Rules.{rules}
 use Rattle.exact.specs.Filling.{runs}
 use Rattle.net.specs.Refusals.{Fault, first_fault}
 use Rattle.net.proofs.Faults.{fault_in_front, fault_in_runs}

@@ -6,14 +6,13 @@ use Prim.Native.Nat.{ℕ, ◌+◌, ◌*◌, ◌≤◌}
 use native.Mathlib.Omega.{arith}
 use lib.IntN.{ℤ}
 use lib.ListN.{length, get_or}
-use borrow.Author.Rules.{rules}
-use Rattle.exact.specs.Filling.{runs, over}
+use Rattle.exact.specs.Filling.{runs}
 use Rattle.net.proofs.Places.{good_size, few_vertices}
 use Rattle.net.proofs.Faults.{answered, clear_parts}
-use Rattle.words.specs.NetFile.{first_point, from_point, file_width, file_height, points, head_size, point_size}
+use Rattle.words.specs.NetFile.{from_point, file_width, file_height, points, head_size, point_size}
 use Rattle.reader.specs.Refusals.{point_faults, end_faults, read_refusal, short_for}
 use Rattle.reader.specs.Answers.{read_outcome}
-use Rattle.reader.proofs.ReadLaws.{GoodHead, good_head, read_parts, points_there, net_kept, net_read_lem}
+use Rattle.reader.proofs.ReadLaws.{GoodHead, good_head, read_parts, points_there}
 use Rattle.reader.proofs.reading.read_with.Goals as goal
 use Rattle.reader.proofs.reading.read_with.Goals.{In-Size, Start}
 

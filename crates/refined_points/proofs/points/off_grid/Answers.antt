@@ -1,10 +1,6 @@
 -- `refined_points::points::off_grid` meets its contract.
-use mathlib.Core.Path.{sym, ◌∙◌}
-use Prim.Native.Nat.{◌-◌, ◌*◌}
+use Prim.Native.Nat.{◌-◌}
 use native.Mathlib.Omega.{arith}
-use lib.Dec.{ltb}
-use borrow.Author.Tests.{lt-ltb, le-ltb}
-use Rattle.net.proofs.Faults.{or_yes, or_no}
 use Rattle.subdivision.specs.Refinement.{side_after}
 use Rattle.steps.specs.Steps.{Depth}
 use Rattle.steps.proofs.Sides.{wide_ready, high_ready, side_grows}

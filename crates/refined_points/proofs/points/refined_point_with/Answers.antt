@@ -5,15 +5,13 @@ use mathlib.Core.List.{List}
 use Prim.Native.Nat.{ℕ}
 use lib.IntN.{ℤ}
 use lib.ListN.{length}
-use borrow.Author.Rules.{rules}
-use Rattle.net.proofs.Faults.{accepted_answer, refused_answer}
+use Rattle.net.proofs.Faults.{accepted_answer}
 use Rattle.places.specs.Places.{OnGrid}
 use Rattle.surface.specs.Answers.{point_answer}
 use Rattle.subdivision.specs.Refinement.{side_after}
 use Rattle.steps.specs.RefinedNet.{refined_net}
-use Rattle.steps.proofs.Sides.{wide_ready, high_ready}
 use Rattle.refine.proofs.Refinable.{Refinable}
-use Rattle.refine.proofs.CallLaws.{left_accepted, left_refused}
+use Rattle.refine.proofs.CallLaws.{left_accepted}
 use Rattle.refined_points.specs.Answers.{refusal_at, refined_surface_point}
 use Rattle.refined_points.proofs.RefinedPoints.{point_accepted, point_answered, point_of_refined, answer_claimed}
 use Rattle.refined_points.proofs.points.refined_point_with.Goals as goal

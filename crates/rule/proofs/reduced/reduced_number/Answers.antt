@@ -11,7 +11,7 @@ use Rattle.exact.specs.WeightedSum.{weighted_sum, Within}
 use Rattle.exact.proofs.SignedCode.{reads_as}
 use Rattle.net.specs.Refusals.{net_limit}
 use Rattle.rule.specs.Reduced.{reduced_row}
-use Rattle.rule.proofs.LowerTerms.{factor_positive, half_positive, small_weights, sum_few, divisor_few, same_rounded}
+use Rattle.rule.proofs.LowerTerms.{half_positive, small_weights, sum_few, divisor_few, same_rounded}
 use Rattle.rule.proofs.reduced.reduced_number.Goals as goal
 use Rattle.rule.proofs.reduced.reduced_number.Goals.{After-weighted_sum6-sum, Start}
 

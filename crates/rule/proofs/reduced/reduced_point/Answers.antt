@@ -1,16 +1,15 @@
 -- `rule::reduced::reduced_point` meets its contract.
-use mathlib.Core.List.{List, [], ◌∷◌}
+use mathlib.Core.List.{List}
 use mathlib.Core.Path.{◌≡◌, sym, subst}
 use Prim.Native.Nat.{ℕ, ◌<◌}
 use lib.Dec.{lit<}
 use lib.IntN.{ℤ}
-use borrow.Author.Rules.{rules}
 use Rattle.exact.specs.WeightedSum.{Within}
 use Rattle.net.specs.Net.{entry}
 use Rattle.net.specs.Refusals.{net_limit}
 use Rattle.subdivision.specs.WeightTable.{six}
 use Rattle.rule.specs.Reduced.{Reducible}
-use Rattle.rule.proofs.Values.{six_within, number}
+use Rattle.rule.proofs.Values.{six_within}
 use Rattle.rule.proofs.reduced.reduced_point.Goals as goal
 use Rattle.rule.proofs.reduced.reduced_point.Goals.{Start}
 

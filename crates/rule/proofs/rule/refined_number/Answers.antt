@@ -14,7 +14,7 @@ use denote.Signed.{SInt}
 use mir.Facts.{to_z-of_z}
 use mir.Syntax.{w32, w64}
 use mir.Val.{Val, SFits, to_z, of_z}
-use borrow.Author.Rules.{rules, sfits_of}
+use borrow.Author.Rules.{sfits_of}
 use Rattle.exact.specs.Rounding.{rounded}
 use Rattle.exact.specs.WeightedSum.{weighted_sum, Within}
 use Rattle.exact.proofs.Order.{≤ℤ-<ℤ-trans}

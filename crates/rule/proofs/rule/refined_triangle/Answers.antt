@@ -2,8 +2,7 @@
 use mathlib.Core.Bool.{true}
 use mathlib.Core.List.{[], ◌∷◌}
 use mathlib.Core.Path.{◌≡◌}
-use borrow.Author.Rules.{rules}
-use Rattle.net.specs.Net.{Index, one, two, three}
+use Rattle.net.specs.Net.{Index, two, three}
 use Rattle.subdivision.specs.WeightTable.{good_row, refined_triangle}
 use Rattle.subdivision.proofs.Tables.{row_at, row_passes}
 use Rattle.rule.proofs.rule.refined_triangle.Goals as goal

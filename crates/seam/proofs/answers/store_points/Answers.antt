@@ -5,7 +5,6 @@ use lib.IntN.{ℤ}
 use lib.Seq.{sets}
 use mir.Val.{to_z, of_z}
 use mir.Syntax.{w32}
-use borrow.Author.Rules.{rules}
 use Rattle.exact.proofs.FillingLaws.{sets_over}
 use Rattle.exact.proofs.SignedCode.{reads_back}
 use Rattle.seam.proofs.answers.store_points.Goals as goal

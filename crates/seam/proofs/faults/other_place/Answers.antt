@@ -3,9 +3,8 @@ use mathlib.Core.Path.{sym, ap, ◌∙◌}
 use mathlib.Core.Bool.{not}
 use Prim.Native.Nat.{◌*◌, ◌^◌}
 use lib.Dec.{eqb}
-use borrow.Author.Rules.{rules}
-use borrow.Author.Tests.{eq-eqb, ne_eqb}
-use Rattle.net.proofs.Faults.{or_yes, or_no}
+use borrow.Author.Tests.{eq-eqb}
+use Rattle.net.proofs.Faults.{or_no}
 use Rattle.seam.proofs.RefusalLaws.{shifted}
 use Rattle.seam.proofs.faults.other_place.Goals as goal
 

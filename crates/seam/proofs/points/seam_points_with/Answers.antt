@@ -12,7 +12,7 @@ use Rattle.surface.specs.Answers.{point_outcome}
 use Rattle.refine.specs.Refusals.{too_short}
 use Rattle.refined_points.specs.Contract.{RefinedPointContract}
 use Rattle.seam.specs.Refusals.{places_faults}
-use Rattle.seam.proofs.CallLaws.{places_clear, seam_placed, places_refused, second_refused, both_answered}
+use Rattle.seam.proofs.CallLaws.{places_clear, both_answered}
 use Rattle.seam.proofs.points.seam_points_with.Goals as goal
 use Rattle.seam.proofs.points.seam_points_with.Goals.{After-refined_point_with-second, Else-refusal-ne0, Start}
 
@@ -67,4 +67,4 @@ returns-in-At c =
     both_answered a.net.now a.w a.h a.k a.l a.p a.q a.p2 a.q2 a.short a.out.now
     a.scratch.now a.out2.now a.scratch2.now (clear (else1 call)) (out2 call)
     (scratch2 call) (subst (Second call (short call)) e (second call)) first.result call.refined_point_with-second.result
-    first.new.out first.new.scratch first.ensures e c.join.ensures) in record { result_value = p.0; seam_left = p.1.0; seam_holds = p.1.1; }
+    first.new.out first.new.scratch first.ensures e c.join.ensures) in record { result_value = p.0; seam_left = p.1.0; seam_holds = p.1.1 }

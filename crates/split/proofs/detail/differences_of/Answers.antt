@@ -1,6 +1,5 @@
 -- `split::detail::differences_of` meets its contract.
-use borrow.Author.Rules.{rules}
-use Rattle.net.specs.Net.{one, two, three}
+use Rattle.net.specs.Net.{two, three}
 use Rattle.split.proofs.detail.differences_of.Goals as goal
 
 pub difference_point-d2-requires : goal.difference_point-d2-requires

@@ -1,12 +1,9 @@
 -- `split::detail::store_difference_row` meets its contract.
 use mathlib.Core.Path.{ap, ◌∙◌}
 use Prim.Native.Nat.{◌*◌}
-use native.Mathlib.Omega.{arith}
 use lib.Seq.{sets}
-use borrow.Author.Rules.{rules}
-use Rattle.net.proofs.Places.{GoodSize, good_size}
 use Rattle.details.specs.Details.{detail_stride}
-use Rattle.split.proofs.SplitLaws.{odd_sides, coarse_depth, row_splittable, details_row}
+use Rattle.split.proofs.SplitLaws.{row_splittable, details_row}
 use Rattle.split.proofs.detail.store_difference_row.Goals as goal
 
 pub store_row_details-requires : goal.store_row_details-requires

@@ -1,18 +1,15 @@
 -- `split::detail::store_differences` meets its contract.
-use mathlib.Core.Path.{◌≡◌, refl, sym, ap, ◌∙◌}
-use mathlib.Core.List.{List}
+use mathlib.Core.Path.{◌≡◌, refl, ap, ◌∙◌}
 use Prim.Native.Nat.{ℕ, ◌+◌, ◌-◌, ◌*◌, ◌≤◌}
 use native.Mathlib.Nat.{mul_assoc, mul_comm, mul-le-mul, le_refl}
 use native.Mathlib.Omega.{arith}
-use lib.IntN.{ℤ}
 use lib.ListN.{length}
 use lib.Seq.{sets}
 use borrow.Author.Rules.{rules}
 use Rattle.exact.specs.Filling.{over, runs}
 use Rattle.exact.proofs.FillingLaws.{over_none, over_more}
-use Rattle.net.specs.Net.{Field, field, grid, grid_row}
+use Rattle.net.specs.Net.{Field, field, grid}
 use Rattle.net.proofs.Grids.{row_length}
-use Rattle.net.proofs.Places.{good_size}
 use Rattle.details.specs.Details.{detail_stride, detail_run, stored_details}
 use Rattle.coarse.specs.Coarse.{coarse_side}
 use Rattle.split.specs.Split.{detail_of}

@@ -1,19 +1,14 @@
 -- `split::detail::store_row_details` meets its contract.
-use mathlib.Core.Path.{◌≡◌, refl, ap, ◌∙◌}
-use mathlib.Core.List.{List}
-use Prim.Native.Nat.{ℕ, ◌+◌, ◌-◌, ◌*◌, ◌≤◌}
-use native.Mathlib.Nat.{mul_comm, mul-le-mul}
+use mathlib.Core.Path.{refl, ◌∙◌}
+use Prim.Native.Nat.{◌+◌, ◌-◌, ◌*◌}
+use native.Mathlib.Nat.{mul_comm}
 use native.Mathlib.Omega.{arith}
-use lib.IntN.{ℤ}
-use lib.ListN.{length}
 use lib.Seq.{sets}
 use borrow.Author.Rules.{rules}
-use Rattle.exact.specs.Filling.{runs}
 use Rattle.exact.proofs.FillingLaws.{runs_none, runs_more}
 use Rattle.net.specs.Net.{vertex_at}
-use Rattle.net.proofs.Places.{GoodSize, good_size}
 use Rattle.details.specs.Details.{detail_stride, detail_run}
-use Rattle.details.proofs.DetailLaws.{detail_ends, stored_details_lem}
+use Rattle.details.proofs.DetailLaws.{stored_details_lem}
 use Rattle.split.specs.Split.{row_differences}
 use Rattle.split.proofs.detail.store_row_details.Invariants.{details_at}
 use Rattle.split.proofs.detail.store_row_details.Goals as goal

@@ -1,19 +1,13 @@
 -- `split::detail::store_row_details` meets its contract.
-use mathlib.Core.Path.{◌≡◌, refl, ap, ◌∙◌}
+use mathlib.Core.Path.{◌≡◌}
 use mathlib.Core.List.{List}
-use Prim.Native.Nat.{ℕ, ◌+◌, ◌-◌, ◌*◌, ◌≤◌}
-use native.Mathlib.Nat.{mul_comm, mul-le-mul}
-use native.Mathlib.Omega.{arith}
+use Prim.Native.Nat.{ℕ, ◌-◌, ◌≤◌}
 use lib.IntN.{ℤ}
 use lib.ListN.{length}
 use lib.Seq.{sets}
-use borrow.Author.Rules.{rules}
 use Rattle.exact.specs.Filling.{runs}
-use Rattle.exact.proofs.FillingLaws.{runs_none, runs_more}
 use Rattle.net.specs.Net.{vertex_at}
-use Rattle.net.proofs.Places.{GoodSize, good_size}
-use Rattle.details.specs.Details.{detail_stride, detail_run}
-use Rattle.details.proofs.DetailLaws.{detail_ends, stored_details_lem}
+use Rattle.details.specs.Details.{detail_run}
 use Rattle.split.specs.Split.{row_differences}
 use Rattle.split.proofs.detail.store_row_details.Given as goal
 

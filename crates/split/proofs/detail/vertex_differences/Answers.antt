@@ -1,9 +1,7 @@
 -- `split::detail::vertex_differences` meets its contract.
-use mathlib.Core.Path.{sym, subst, ◌∙◌}
-use native.Mathlib.Omega.{arith}
+use mathlib.Core.Path.{sym, subst}
 use Rattle.net.specs.Refusals.{net_limit, ControlsWithin}
 use Rattle.net.proofs.Accepted.{accepted_vertex}
-use Rattle.split.specs.Split.{differences}
 use Rattle.split.proofs.detail.vertex_differences.Goals as goal
 
 pub differences_of-requires : goal.differences_of-requires

@@ -1,9 +1,8 @@
 -- `split::splitting::net_refusal` meets its contract.
 use mathlib.Core.Path.{◌≡◌, refl, sym, ◌∙◌}
 use mathlib.Core.Bool.{false}
-use borrow.Author.Rules.{rules}
 use Rattle.net.specs.Refusals.{short_net}
-use Rattle.net.proofs.Faults.{cond_true, cond_false}
+use Rattle.net.proofs.Faults.{cond_false}
 use Rattle.split.proofs.SplitLaws.{small_net}
 use Rattle.split.proofs.splitting.net_refusal.Goals as goal
 use Rattle.split.proofs.splitting.net_refusal.Goals.{Else-short_net, Start}

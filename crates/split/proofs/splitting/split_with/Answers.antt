@@ -4,10 +4,9 @@ use mathlib.Core.List.{List}
 use Prim.Native.Nat.{ℕ}
 use lib.IntN.{ℤ}
 use lib.ListN.{length}
-use borrow.Author.Rules.{rules}
 use Rattle.exact.specs.Filling.{over}
 use Rattle.net.specs.Refusals.{AcceptedNet}
-use Rattle.net.proofs.Faults.{carried_out, not_carried_out, when_accepted, when_refused}
+use Rattle.net.proofs.Faults.{carried_out, when_accepted}
 use Rattle.coarse.specs.Coarse.{coarse_side, coarse_net}
 use Rattle.split.specs.Split.{details_against, net_details}
 use Rattle.split.specs.Answers.{split_refusal_with}

@@ -6,7 +6,6 @@ use Prim.Native.Nat.{ℕ, ◌+◌, ◌*◌, ◌≤◌, ◌<◌}
 use native.Mathlib.Omega.{arith}
 use lib.IntN.{ℤ}
 use lib.ListN.{length}
-use borrow.Author.Rules.{rules}
 use Rattle.net.specs.Net.{vertex_at, start, stride, control_triangle}
 use Rattle.net.specs.Refusals.{net_limit, ControlsWithin}
 use Rattle.net.proofs.Accepted.{accepted_vertex}

@@ -1,10 +1,6 @@
 -- `steps::depth::side_after` meets its contract.
-use mathlib.Core.Path.{◌≡◌, refl, ap, ◌∙◌}
-use Prim.Native.Nat.{ℕ, ◌+◌, ◌-◌, ◌*◌, ◌≤◌}
-use native.Mathlib.Numerals.{add-one}
+use Prim.Native.Nat.{◌-◌, ◌≤◌}
 use native.Mathlib.Omega.{arith}
-use borrow.Author.Rules.{rules}
-use Rattle.subdivision.specs.Refinement.{side_after}
 use Rattle.steps.proofs.Sides.{side_small, side_grows}
 use Rattle.steps.proofs.sizes.side_after.Goals as goal
 use Rattle.steps.proofs.sizes.side_after.Goals.{In-loop-i}

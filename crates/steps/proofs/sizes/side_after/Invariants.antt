@@ -1,11 +1,7 @@
 -- `steps::depth::side_after` meets its contract.
-use mathlib.Core.Path.{◌≡◌, refl, ap, ◌∙◌}
-use Prim.Native.Nat.{ℕ, ◌+◌, ◌-◌, ◌*◌, ◌≤◌}
-use native.Mathlib.Numerals.{add-one}
-use native.Mathlib.Omega.{arith}
-use borrow.Author.Rules.{rules}
+use mathlib.Core.Path.{◌≡◌}
+use Prim.Native.Nat.{◌-◌, ◌≤◌}
 use Rattle.subdivision.specs.Refinement.{side_after}
-use Rattle.steps.proofs.Sides.{side_small, side_grows}
 use Rattle.steps.proofs.sizes.side_after.Given as goal
 
 abbrev pub invariant-loop-i : goal.invariant-loop-i

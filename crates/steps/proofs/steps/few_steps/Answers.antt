@@ -1,17 +1,13 @@
 -- `steps::steps::few_steps` meets its contract.
-use mathlib.Core.Path.{◌≡◌, ap, subst, ◌∙◌}
+use mathlib.Core.Path.{◌≡◌, ap, ◌∙◌}
 use mathlib.Core.List.{List}
-use Prim.Native.Nat.{ℕ, ◌*◌, ◌≤◌, ◌-◌}
+use Prim.Native.Nat.{◌≤◌, ◌-◌}
 use native.Mathlib.Omega.{arith}
 use lib.IntN.{ℤ}
-use lib.ListN.{length, length-take, take}
-use borrow.Author.Rules.{rules}
+use lib.ListN.{length, take}
 use borrow.Author.Tests.{ltb-false}
 use Rattle.exact.specs.Filling.{over}
 use Rattle.net.specs.Net.{numbers}
-use Rattle.net.proofs.Places.{good_size, few_vertices}
-use Rattle.steps.specs.RefinedNet.{refined_net, numbers_after}
-use Rattle.steps.specs.Steps.{Depth}
 use Rattle.steps.proofs.StepLaws.{copied}
 use Rattle.steps.proofs.steps.few_steps.Goals as goal
 use Rattle.steps.proofs.steps.few_steps.Goals.{Start}

@@ -1,9 +1,6 @@
 -- `steps::steps::last_step` meets its contract.
-use mathlib.Core.Path.{sym, subst, ◌∙◌}
+use mathlib.Core.Path.{sym, subst}
 use Prim.Native.Nat.{ℕ}
-use borrow.Author.Rules.{rules}
-use Rattle.exact.specs.Filling.{over}
-use Rattle.steps.specs.RefinedNet.{refined_net}
 use Rattle.steps.specs.Steps.{StepReady}
 use Rattle.steps.proofs.Sides.{wide_ready, high_ready, shallower}
 use Rattle.steps.proofs.StepLaws.{last_ready}

@@ -12,7 +12,6 @@ use Rattle.net.specs.Net.{stride, grid}
 use Rattle.net.proofs.Grids.{row_length}
 use Rattle.subdivision.specs.Refinement.{refined_side}
 use Rattle.steps.specs.RefinedNet.{refined_fields, vertex_run, row_run, stored, refined_net}
-use Rattle.steps.proofs.Sides.{few_after}
 use Rattle.steps.proofs.steps.refine_once.Goals as goal
 
 pub loop-j-init : goal.loop-j-init

@@ -1,18 +1,10 @@
 -- `steps::steps::refine_once` meets its contract.
-use mathlib.Core.Path.{◌≡◌, refl, ap, ◌∙◌}
-use Prim.Native.Nat.{ℕ, ◌+◌, ◌-◌, ◌*◌, ◌≤◌}
-use native.Mathlib.Nat.{mul_assoc, mul_comm, mul-le-mul, le_refl}
-use native.Mathlib.Omega.{arith}
+use mathlib.Core.Path.{◌≡◌}
+use Prim.Native.Nat.{◌-◌, ◌≤◌}
 use lib.ListN.{length}
-use lib.Seq.{sets}
-use borrow.Author.Rules.{rules}
 use Rattle.exact.specs.Filling.{over, runs}
-use Rattle.exact.proofs.FillingLaws.{over_none, over_more}
-use Rattle.net.specs.Net.{stride, grid}
-use Rattle.net.proofs.Grids.{row_length}
 use Rattle.subdivision.specs.Refinement.{refined_side}
-use Rattle.steps.specs.RefinedNet.{refined_fields, vertex_run, row_run, stored, refined_net}
-use Rattle.steps.proofs.Sides.{few_after}
+use Rattle.steps.specs.RefinedNet.{refined_fields, row_run}
 use Rattle.steps.proofs.steps.refine_once.Given as goal
 
 abbrev pub invariant-loop-j : goal.invariant-loop-j

@@ -1,20 +1,15 @@
 -- `surface::points::coordinate_at` meets its contract.
 use mathlib.Core.Bool.{Bool}
 use mathlib.Core.List.{[]}
-use mathlib.Core.Path.{◌≡◌, sym, ap, subst, ◌∙◌}
-use Prim.Native.Nat.{ℕ, ◌*◌, ◌^◌, ◌≤◌}
-use lib.Dec.{lit≤}
+use mathlib.Core.Path.{◌≡◌, sym, subst, ◌∙◌}
+use Prim.Native.Nat.{ℕ, ◌*◌, ◌≤◌}
 use lib.IntN.{ℤ, nat_abs}
 use lib.ListN.{get_or}
-use mir.Syntax.{w32, w64}
+use mir.Syntax.{w64}
 use mir.Val.{to_z, of_z}
-use borrow.Author.Rules.{rules}
-use Rattle.exact.specs.Rounding.{rounded}
-use Rattle.exact.specs.WeightedSum.{Within}
-use Rattle.exact.proofs.WeightedSumLaws.{within_more}
 use Rattle.exact.proofs.SignedCode.{reads_as}
 use Rattle.de_casteljau.specs.declared.points.Corner.{Corner}
-use Rattle.de_casteljau.specs.Ordinates.{values_of, ordinates}
+use Rattle.de_casteljau.specs.Ordinates.{ordinates}
 use Rattle.de_casteljau.specs.Averages.{last_average}
 use Rattle.surface.specs.Evaluation.{corner_values}
 use Rattle.surface.proofs.Evaluation.{corners_within, last_small}

@@ -1,18 +1,11 @@
 -- `surface::points::evaluate` meets its contract: each iteration stores one coordinate more.
 use mathlib.Core.Bool.{Bool}
-use mathlib.Core.Path.{◌≡◌, refl, sym, ◌∙◌, ap}
+use mathlib.Core.Path.{◌≡◌}
 use mathlib.Core.List.{List, [], ◌∷◌}
 use Prim.Native.Nat.{ℕ, ◌-◌, ◌≤◌}
-use native.Mathlib.Nat.{mul-one}
-use native.Mathlib.Omega.{arith}
-use lib.IntN.{ℤ, pos}
-use lib.ListN.{length, get_or, set}
-use lib.Seq.{sets}
-use mir.Syntax.{w32}
-use borrow.Author.Rules.{rules}
+use lib.IntN.{ℤ}
+use lib.ListN.{length}
 use Rattle.exact.specs.Filling.{over, runs}
-use Rattle.exact.proofs.FillingLaws.{over_none, over_more}
-use Rattle.exact.proofs.SignedCode.{reads_as}
 use Rattle.surface.specs.Evaluation.{evaluated}
 use Rattle.surface.proofs.points.evaluate.Given as goal
 

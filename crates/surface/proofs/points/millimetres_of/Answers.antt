@@ -3,7 +3,6 @@ use mathlib.Core.Path.{ap}
 use lib.Ieee.{binary64, div, of_int, of_bits}
 use lib.IntN.{ℤ}
 use mir.Facts.{to_z-of_z}
-use borrow.Author.Rules.{rules}
 use Rattle.surface.proofs.points.millimetres_of.Goals as goal
 
 pub returns : goal.returns

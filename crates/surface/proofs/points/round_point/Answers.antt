@@ -1,12 +1,11 @@
 -- `surface::points::round_point` meets its contract: the quotient is small enough for an i32.
 use mathlib.Core.Path.{◌≡◌, sym, ap, subst, ◌∙◌}
 use lib.IntN.{ℤ}
-use lib.Dec.{lit<, lit≤}
 use mir.Val.{SFits, to_z, of_z}
 use mir.Syntax.{w32, w64}
 use mir.Facts.{to_z-of_z}
 use Rattle.exact.proofs.Sizes.{fits_of_size}
-use Rattle.exact.proofs.SignedCode.{reads_as, read_size_lem}
+use Rattle.exact.proofs.SignedCode.{reads_as}
 use Rattle.exact.specs.Rounding.{rounded}
 use Rattle.surface.proofs.Evaluation.{point_small}
 use Rattle.surface.proofs.points.round_point.Goals as goal

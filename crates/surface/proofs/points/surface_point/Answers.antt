@@ -1,5 +1,4 @@
 -- `surface::points::surface_point` meets its contract: no output is too short.
-use borrow.Author.Rules.{rules}
 use Rattle.surface.specs.Answers.{point_answer}
 use Rattle.surface.proofs.points.surface_point.Goals as goal
 

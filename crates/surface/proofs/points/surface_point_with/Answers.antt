@@ -3,11 +3,9 @@ use mathlib.Core.Bool.{Bool}
 use mathlib.Core.List.{List, [], ◌∷◌}
 use mathlib.Core.Path.{◌≡◌, refl, sym, subst, ◌∙◌, subst₂, ap}
 use Prim.Native.Nat.{ℕ, ◌≤◌}
-use native.Mathlib.Omega.{arith}
 use lib.IntN.{ℤ}
-use borrow.Author.Rules.{rules}
 use Rattle.net.specs.Net.{one, two, three, triangle_at, Index, Triangle}
-use Rattle.net.proofs.Faults.{cond_true, cond_false}
+use Rattle.net.proofs.Faults.{cond_false}
 use Rattle.net.proofs.Places.{below_three}
 use Rattle.places.specs.Located.{InOrder}
 use Rattle.places.specs.Places.{chosen, share, order_of, corner_p, corner_q, corner_t}
@@ -15,7 +13,7 @@ use Rattle.triangles.specs.Corners.{InNet, corner_controls, reordered_controls}
 use Rattle.triangles.specs.Refusals.{triangle_beyond}
 use Rattle.triangles.proofs.CornerForm.{arranged, arranged_corners}
 use Rattle.surface.specs.Evaluation.{Evaluable, evaluated}
-use Rattle.surface.proofs.SurfacePoints.{GoodPlace, good_place, refused_place, room_refusal, range_refusal, refused_point, accepted_point, share_small, in_order_of, evaluable, evaluated_coordinate, in_net_place}
+use Rattle.surface.proofs.SurfacePoints.{GoodPlace, good_place, range_refusal, accepted_point, share_small, in_order_of, evaluable, evaluated_coordinate, in_net_place}
 use Rattle.surface.proofs.points.surface_point_with.Goals as goal
 use Rattle.surface.proofs.points.surface_point_with.Goals.{After-load_corner-t, After-locate-at, After-put_in_order-o, After-triangle_beyond, Else-refusal-ne0}
 

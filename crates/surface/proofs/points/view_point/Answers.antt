@@ -1,5 +1,4 @@
 -- `surface::points::view_point` meets its contract: no output is too short.
-use borrow.Author.Rules.{rules}
 use Rattle.surface.specs.Answers.{view_answer}
 use Rattle.surface.proofs.points.view_point.Goals as goal
 

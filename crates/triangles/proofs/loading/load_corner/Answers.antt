@@ -4,7 +4,6 @@ use mathlib.Core.Path.{◌≡◌, sym, subst, ◌∙◌}
 use Prim.Native.Nat.{ℕ, ◌+◌, ◌≤◌}
 use lib.IntN.{ℤ}
 use lib.ListN.{length}
-use borrow.Author.Rules.{rules}
 use Rattle.net.specs.Net.{Index, rank, Triangle, triangle_at, corner, start, stride}
 use Rattle.net.proofs.Places.{below_three}
 use Rattle.triangles.specs.BezierPoints.{index_k, index_m, index_n}

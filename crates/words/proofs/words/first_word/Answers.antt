@@ -1,6 +1,5 @@
 -- `words::words::first_word` meets its contract.
 use mathlib.Core.Path.{ap, ◌∙◌}
-use borrow.Author.Rules.{rules}
 use Rattle.words.specs.LowFirst.{swapped_bytes}
 use Rattle.words.proofs.WordLaws.{swapped_first}
 use Rattle.words.proofs.words.first_word.Goals as goal

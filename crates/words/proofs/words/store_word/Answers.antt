@@ -2,7 +2,6 @@
 use mathlib.Core.Path.{ap, ◌∙◌}
 use native.Mathlib.Omega.{arith}
 use lib.Seq.{sets}
-use borrow.Author.Rules.{rules}
 use Rattle.words.specs.NetFile.{word}
 use Rattle.words.specs.LowFirst.{low_bytes}
 use Rattle.words.proofs.WordLaws.{low_swapped}

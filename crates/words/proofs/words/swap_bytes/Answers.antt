@@ -1,6 +1,5 @@
 -- `words::words::swap_bytes` meets its contract.
 use mathlib.Core.Path.{refl}
-use borrow.Author.Rules.{rules}
 use Rattle.words.specs.LowFirst.{swapped_bytes}
 use Rattle.words.proofs.words.swap_bytes.Goals as goal
 

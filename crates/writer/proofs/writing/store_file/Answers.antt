@@ -1,15 +1,10 @@
 -- `writer::writing::store_file` meets its contract.
-use mathlib.Core.Path.{ap, ◌∙◌}
+use mathlib.Core.Path.{◌∙◌}
 use Prim.Native.Nat.{◌+◌, ◌*◌}
-use native.Mathlib.Omega.{arith}
-use lib.Dec.{lit<}
-use lib.ListN.{length}
-use lib.Seq.{sets, length-sets}
-use borrow.Author.Rules.{rules}
+use lib.Seq.{sets}
 use Rattle.exact.specs.Filling.{runs}
 use Rattle.net.specs.Net.{point_stride}
-use Rattle.net.proofs.Places.{good_size, GoodSize}
-use Rattle.words.specs.NetFile.{word, word_bytes, end_kind, width_kind, height_kind, points, point_bytes, head_size, point_size}
+use Rattle.words.specs.NetFile.{word, word_bytes, end_kind, height_kind, points, point_bytes, head_size, point_size}
 use Rattle.writer.proofs.WriteLaws.{file_stored}
 use Rattle.writer.proofs.writing.store_file.Goals as goal
 

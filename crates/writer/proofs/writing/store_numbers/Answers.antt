@@ -9,7 +9,6 @@ use lib.Seq.{sets, length-sets}
 use lib.IntN.{ℤ, nat_abs}
 use mir.Syntax.{w32}
 use mir.Val.{to_z, of_z}
-use borrow.Author.Rules.{rules}
 use Rattle.exact.proofs.SignedCode.{reads_back}
 use Rattle.net.specs.Net.{number}
 use Rattle.net.specs.Refusals.{net_limit}

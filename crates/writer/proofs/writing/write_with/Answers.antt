@@ -6,12 +6,11 @@ use Prim.Native.Nat.{ℕ, ◌-◌, ◌*◌, ◌≤◌}
 use native.Mathlib.Omega.{arith}
 use lib.ListN.{length, take, length-take}
 use lib.IntN.{ℤ}
-use borrow.Author.Rules.{rules}
 use Rattle.exact.specs.Filling.{over}
 use Rattle.net.specs.Net.{numbers, stride}
 use Rattle.net.specs.Refusals.{any_beyond}
 use Rattle.net.proofs.Places.{good_size, few_vertices}
-use Rattle.net.proofs.Faults.{accepted_answer, refused_answer, when_accepted, when_refused}
+use Rattle.net.proofs.Faults.{accepted_answer, when_accepted}
 use Rattle.net.proofs.Beyond.{cut}
 use Rattle.words.specs.NetFile.{net_file, file_size}
 use Rattle.writer.specs.Refusals.{write_refusal, no_room}
