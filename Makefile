@@ -1,20 +1,30 @@
+# what rt proves before it builds, so that each is built anew only where a source is newer
+SOURCES = crates.txt $(shell find crates -name out -prune -o \( -name '*.rt' -o -name '*.antt' \) -print)
+
 # the listing of a net file, of the door corner's where none is named: make list NET=path
 NET ?= crates/listing/stdin
+LISTING = target/bin/listing
 
-list:
+list: $(LISTING)
+	@$(LISTING) <$(NET)
+
+# rt builds a program where it runs it
+$(LISTING): $(SOURCES)
+	@echo "proving and building the listing program, which takes some minutes the first time" >&2
 	@mkdir -p target
-	@rt check listing >target/list.log 2>&1 || { cat target/list.log >&2; exit 1; }
-	@target/bin/listing <$(NET)
+	@(cd crates/listing && rt run) <crates/listing/stdin >target/list.log 2>&1 || { cat target/list.log >&2; exit 1; }
+	@install -D crates/listing/out/listing $(LISTING)
 
-# the static library, anew only where a source is newer, since rt proves all of it first
+# the static library
 LIBRARY = target/staticlib/libups.a
 
 lib: $(LIBRARY)
 
-$(LIBRARY): crates.txt $(shell find crates -name '*.rt' -o -name '*.antt')
+$(LIBRARY): $(SOURCES)
 	@echo "proving and building the library, which takes some minutes the first time"
 	@mkdir -p target
-	@rt staticlib ups >target/lib.log 2>&1 || { cat target/lib.log >&2; exit 1; }
+	@(cd crates/ups && rt lib) >target/lib.log 2>&1 || { cat target/lib.log >&2; exit 1; }
+	@install -D -m 644 crates/ups/out/libups.a $(LIBRARY)
 
 # library, header and pkg-config's file: make install PREFIX=path; DESTDIR is for packages, and ups.pc does not name it
 PREFIX ?= /usr/local
