@@ -1,6 +1,7 @@
 //! The listing program on files of all kinds, against text made by the oracle.
 //!
-//! The program is the one in `LISTING_PROGRAM`, or else in the folder where `rt` links it.
+//! The program is the one in `LISTING_PROGRAM`, or else `target/bin/listing`, where the gate and
+//! `make list` put what `rt` built.
 
 use std::env;
 use std::fs::{self, File};
