@@ -15,7 +15,7 @@ $(LISTING): $(SOURCES)
 	@(cd crates/listing && rt run) <crates/listing/stdin >target/list.log 2>&1 || { cat target/list.log >&2; exit 1; }
 	@install -D crates/listing/out/listing $(LISTING)
 
-# the static library
+# the static library, for every x86-64 processor: what rt builds otherwise needs those of x86-64-v2
 LIBRARY = target/staticlib/libups.a
 
 lib: $(LIBRARY)
@@ -23,7 +23,7 @@ lib: $(LIBRARY)
 $(LIBRARY): $(SOURCES)
 	@echo "proving and building the library, which takes some minutes the first time"
 	@mkdir -p target
-	@(cd crates/ups && rt lib) >target/lib.log 2>&1 || { cat target/lib.log >&2; exit 1; }
+	@(cd crates/ups && rt lib --cpu x86-64) >target/lib.log 2>&1 || { cat target/lib.log >&2; exit 1; }
 	@install -D -m 644 crates/ups/out/libups.a $(LIBRARY)
 
 # library, header and pkg-config's file: make install PREFIX=path; DESTDIR is for packages, and ups.pc does not name it
