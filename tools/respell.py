@@ -1,5 +1,5 @@
 #!/usr/bin/env python3
-"""Brings this repository's own definitions and lemmas to snake case, once, after /opt/rattle/port/port.py.
+"""Brings this repository's own definitions and lemmas to snake case, once, after the port.py of the kit.
 
 usage: python3 tools/respell.py [--dry]     at the top of the repository
 
