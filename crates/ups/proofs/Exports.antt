@@ -34,9 +34,9 @@ use Rattle.outlined_refine.specs.Answers.{OutlinedLeft}
 use Rattle.ups.specs.Exports.{bezier_export, point_export, seam_export, outlined_point_export}
 
 -- a test that is joined by one that fails
-or-false : (a : Bool) {b : Bool} → b ≡ false → a ≡ (a || b)
-or-false true e = refl
-or-false false e = sym e
+or_false : (a : Bool) {b : Bool} → b ≡ false → a ≡ (a || b)
+or_false true e = refl
+or_false false e = sym e
 
 -- `down` is 0 or 1: the Bézier net's own refusals
 pub bezier_export_lem : (net : List ℤ) (w h i j down room : ℕ) → ltb 1 down ≡ false →
@@ -46,7 +46,7 @@ bezier_export_lem net w h i j down room e =
     (λ (t : Bool). cond (bad_size w h) 1
     (cond t 6 (cond (short_net net w h) 2
     (cond (ltb room 57) 5 (cond (triangle_beyond net w (triangle_at i j (eqb down 1))) 3 0)))))
-    (or-false (no_triangle w h i j) e)
+    (or_false (no_triangle w h i j) e)
 
 -- another number is no triangle
 pub no_kind : (net : List ℤ) (w h i j down room : ℕ) → bad_size w h ≡ false → ltb 1 down ≡ true →
