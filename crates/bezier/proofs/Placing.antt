@@ -6,7 +6,7 @@ use Prim.Native.Nat.{ℕ, zero, suc, ◌+◌, ◌*◌, ◌≤◌, ◌<◌}
 use native.Mathlib.Numerals.{add-one}
 use native.Mathlib.Omega.{arith}
 use lib.IntN.{ℤ, pos}
-use lib.ListN.{length, get_or, set, length-set}
+use lib.ListN.{length, get_or, set}
 use lib.Seq.{set_comm}
 use Rattle.exact.specs.Filling.{over, runs}
 use Rattle.exact.proofs.FillingLaws.{over_none, over_more}
@@ -21,12 +21,6 @@ pub placed_more : (n x : ℕ) (numbers out : List ℤ) →
     set (placed n x numbers out) (3 * n + x) (get_or numbers n (pos 0)) ≡ placed (n + 1) x numbers out
 unfolding placed
 placed_more n x numbers out = ap (λ (k : ℕ). placed k x numbers out) (sym (add-one n))
-
-pub length_placed : (n x : ℕ) (numbers out : List ℤ) → length (placed n x numbers out) ≡ length out
-unfolding placed
-length_placed zero x numbers out = refl
-length_placed (suc n) x numbers out =
-    length-set (placed n x numbers out) (3 * n + x) (get_or numbers n (pos 0)) ∙ length_placed n x numbers out
 
 -- a number that is stored elsewhere may be stored first
 placed_apart : (n x : ℕ) (numbers out : List ℤ) (at : ℕ) (z : ℤ) → ((i : ℕ) → i < n → 3 * i + x ≢ at) →

@@ -95,11 +95,8 @@ fn store_ordinates(numbers: [i32; 19], x: usize, out: &mut [i32])
     requires { (x < 3) × (57 ≤ length out.old) }
     ensures { out.new ≡ placed 19 x numbers out.old }
 {
-    let mut n = 0;
-    while n < 19 {
-        let number = numbers[n];
+    for (n, &number) in numbers.iter().enumerate() {
         out[3 * n + x] = number;
-        n += 1;
     }
 }
 
@@ -120,10 +117,8 @@ fn write_points(controls: [[[i32; 3]; 3]; 3], out: &mut [i32])
         ≡ over (runs 19 (three_at (points_of (values_in controls 0)) (points_of (values_in controls 1))
         (points_of (values_in controls 2)))) out.old }
 {
-    let mut x = 0;
-    while x < 3 {
+    for x in 0..3 {
         write_coordinate(controls, x, out);
-        x += 1;
     }
 }
 

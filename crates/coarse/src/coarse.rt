@@ -62,10 +62,8 @@ fn coarse_row_beyond(net: &[i32], w: usize, h: usize, j: usize) -> bool
 {
     let wide = (w + 1) / 2;
     let mut bad = false;
-    let mut i = 0;
-    while i < wide {
-        bad = bad | controls_beyond(coarse_vertex(net, w, i, j));
-        i += 1;
+    for i in 0..wide {
+        bad |= controls_beyond(coarse_vertex(net, w, i, j));
     }
     bad
 }
@@ -77,10 +75,8 @@ pub fn coarse_beyond(net: &[i32], w: usize, h: usize) -> bool
 {
     let high = (h + 1) / 2;
     let mut bad = false;
-    let mut j = 0;
-    while j < high {
-        bad = bad | coarse_row_beyond(net, w, h, j);
-        j += 1;
+    for j in 0..high {
+        bad |= coarse_row_beyond(net, w, h, j);
     }
     bad
 }
@@ -93,10 +89,8 @@ fn store_coarse_row(net: &[i32], w: usize, h: usize, j: usize, coarse: &mut [i32
         (row_run (coarse_fields net.now w) (coarse_side w) j) }
 {
     let wide = (w + 1) / 2;
-    let mut i = 0;
-    while i < wide {
+    for i in 0..wide {
         store_triangle(coarse_vertex(net, w, i, j), STRIDE * (j * wide + i), coarse);
-        i += 1;
     }
 }
 
@@ -106,9 +100,7 @@ pub fn store_coarse(net: &[i32], w: usize, h: usize, coarse: &mut [i32])
     ensures { coarse.new ≡ over (coarse_net net.now w h) coarse.old }
 {
     let high = (h + 1) / 2;
-    let mut j = 0;
-    while j < high {
+    for j in 0..high {
         store_coarse_row(net, w, h, j, coarse);
-        j += 1;
     }
 }

@@ -1,6 +1,6 @@
 // Numbers as text, stored from a place on. Each function answers the place after what it stored. Callers establish the
 // precondition, room for the text: the functions below, and the lines of the listing.
-ghost use Rattle.std.specs.Prelude.{◌≡◌, [], ◌∷◌, ◌++◌, ◌+◌, ◌≤◌, ◌<◌, nat_abs, length};
+ghost use Rattle.std.specs.Prelude.{◌≡◌, [], ◌∷◌, ◌++◌, ◌+◌, ◌≤◌, ◌<◌, length};
 ghost use Rattle.decimal.specs.Decimal.{digit, decimal, signed_decimal};
 ghost use Rattle.decimal.specs.Storing.{Stored};
 
@@ -34,24 +34,12 @@ fn store_decimal(n: usize, at: usize, out: &mut [u8]) -> usize
     }
 }
 
-// The size of a number, without its sign. The least i32 has no opposite among the i32, so it is taken as an i64.
-fn size(z: i32) -> usize
-    ensures { result ≡ nat_abs z }
-{
-    let wide = z as i64;
-    if wide < 0 {
-        (-wide) as usize
-    } else {
-        wide as usize
-    }
-}
-
-// A number with its sign.
+// A number with its sign. The least i32 has no opposite among the i32, so its size is taken as a u32.
 fn store_signed(z: i32, at: usize, out: &mut [u8]) -> usize
     requires { at + length (signed_decimal z) ≤ length out.old }
     ensures { Stored out.old at (signed_decimal z) out.new result }
 {
-    let n = size(z);
+    let n = z.unsigned_abs() as usize;
     if z < 0 {
         let after = store_byte(b'-', at, out);
         store_decimal(n, after, out)

@@ -36,12 +36,8 @@ fn clean_first(details: &mut [i32], n: usize, t: u32)
     ensures { details.new
         ≡ over (map (cleaned t) (take n details.old)) details.old }
 {
-    let mut i = 0;
-    while i < n {
-        let z = details[i];
-        let c = cleaned_number(z, t);
-        details[i] = c;
-        i += 1;
+    for z in &mut details[..n] {
+        *z = cleaned_number(*z, t);
     }
 }
 

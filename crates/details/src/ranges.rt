@@ -22,11 +22,8 @@ pub fn first_outside(numbers: &[i32], n: usize, limit: u32) -> bool
     ensures { result ≡ any_outside limit (take n numbers.now) }
 {
     let mut bad = false;
-    let mut i = 0;
-    while i < n {
-        let z = numbers[i];
-        bad = bad | number_outside(z, limit);
-        i += 1;
+    for &z in &numbers[..n] {
+        bad |= number_outside(z, limit);
     }
     bad
 }

@@ -47,13 +47,6 @@ fn cell_has(
     up | down
 }
 
-// The number before n, and 0 for 0.
-fn previous(n: usize) -> usize
-    ensures { result ≡ n - 1 }
-{
-    if 0 < n { n - 1 } else { 0 }
-}
-
 // Whether place (p, q), in d-ths of an edge, lies in a present triangle. The cells that can have it are those of
 // column p/d and of the column before, where the place may lie on the edge between them, and of rows so. For the calls
 // on points with an outline, which have refused every other size, outline and place.
@@ -64,8 +57,8 @@ pub fn on_door(outline: &[u8], w: usize, h: usize, d: usize, p: usize, q: usize)
 {
     let i = p / d;
     let j = q / d;
-    let k = previous(i);
-    let l = previous(j);
+    let k = i.saturating_sub(1);
+    let l = j.saturating_sub(1);
     let here = cell_has(outline, w, h, d, p, q, i, j);
     let left = cell_has(outline, w, h, d, p, q, k, j);
     let below = cell_has(outline, w, h, d, p, q, i, l);

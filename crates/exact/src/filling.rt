@@ -7,10 +7,7 @@ pub fn copy_over(numbers: &[i32], out: &mut [i32])
     requires { length numbers.now ≤ length out.old }
     ensures { out.new ≡ over numbers.now out.old }
 {
-    let mut i = 0;
-    while i < numbers.len() {
-        let z = numbers[i];
+    for (i, &z) in numbers.iter().enumerate() {
         out[i] = z;
-        i += 1;
     }
 }

@@ -13,12 +13,8 @@ fn weighted_sum(weights: &[i64], values: &[i32]) -> i64
     ensures { Summed weights.now values.now result }
 {
     let mut sum: i64 = 0;
-    let mut i = 0;
-    while i < weights.len() {
-        let w = weights[i];
-        let v = values[i];
+    for (&w, &v) in weights.iter().zip(values) {
         sum += w * (v as i64);
-        i += 1;
     }
     sum
 }

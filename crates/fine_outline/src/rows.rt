@@ -23,11 +23,9 @@ fn write_cell(up: u8, down: u8, s: usize, g: usize, at: usize, fine: &mut [u8])
     requires { (g < s) × (s ≤ 64) × (at + 2 * s ≤ length fine.old) }
     ensures { fine.new ≡ sets fine.old at (cell_run up down s g) }
 {
-    let mut n = 0;
-    while n < 2 * s {
+    for n in 0..2 * s {
         let b = parent_byte(up, down, s, n / 2 + g + n % 2);
         fine[at + n] = b;
-        n += 1;
     }
 }
 
@@ -42,13 +40,11 @@ fn write_row(outline: &[u8], w: usize, h: usize, s: usize, r: usize, fine: &mut 
     let g = r % s;
     let from = r / s * cells;
     let at = r * (cells * part);
-    let mut i = 0;
-    while i < cells {
+    for i in 0..cells {
         let n = 2 * (from + i);
         let up = outline[n];
         let down = outline[n + 1];
         write_cell(up, down, s, g, at + i * part, fine);
-        i += 1;
     }
 }
 
@@ -61,9 +57,7 @@ pub fn write_fine_outline(outline: &[u8], w: usize, h: usize, k: usize, fine: &m
 {
     let s = side_after(2, k) - 1;
     let rows = s * (h - 1);
-    let mut r = 0;
-    while r < rows {
+    for r in 0..rows {
         write_row(outline, w, h, s, r, fine);
-        r += 1;
     }
 }

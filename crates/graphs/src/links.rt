@@ -8,10 +8,8 @@ pub fn link_self(links: &mut [u32])
     requires { length links.old ≤ 2097152 }
     ensures { links.new ≡ runs (length links.old) (λ t. t ∷ []) }
 {
-    let mut t = 0;
-    while t < links.len() {
-        links[t] = t as u32;
-        t += 1;
+    for (t, link) in links.iter_mut().enumerate() {
+        *link = t as u32;
     }
 }
 

@@ -16,13 +16,10 @@ pub fn hermite_beyond(given: &[i32], w: usize, h: usize) -> bool
     requires { Enough given.now w h }
     ensures { result ≡ hermite_beyond given.now w h }
 {
-    let count = w * h;
-    let mut n = 0;
-    while n < count {
+    for n in 0..w * h {
         if triangle_beyond(controls_at(given, n)) {
             return true;
         }
-        n += 1;
     }
     false
 }
@@ -32,11 +29,8 @@ pub fn store_hermite(given: &[i32], w: usize, h: usize, out: &mut [i32])
     requires { Fitting given.now w h × (numbers w h ≤ length out.old) }
     ensures { out.new ≡ over (hermite_net given.now w h) out.old }
 {
-    let count = w * h;
-    let mut n = 0;
-    while n < count {
+    for n in 0..w * h {
         let c = narrow_triangle(controls_at(given, n));
         store_triangle(c, STRIDE * n, out);
-        n += 1;
     }
 }

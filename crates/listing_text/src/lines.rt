@@ -12,13 +12,10 @@ fn store_text(text: &[u8], out: &mut [u8]) -> usize
     requires { length text.now ≤ length out.old }
     ensures { Stored out.old 0 text.now out.new result }
 {
-    let mut i = 0;
-    while i < text.len() {
-        let b = text[i];
+    for (i, &b) in text.iter().enumerate() {
         out[i] = b;
-        i += 1;
     }
-    i
+    text.len()
 }
 
 // The first line of a net.

@@ -71,11 +71,9 @@ fn sums_beyond(row: &[i32], details: &[i32], w: usize, h: usize, j: usize) -> bo
     ensures { result ≡ any_beyond (row_run (row_sums row.now details.now w) w j) }
 {
     let mut bad = false;
-    let mut i = 0;
-    while i < w {
+    for i in 0..w {
         let c = vertex_sums(row, details, w, h, i, j);
-        bad = bad | controls_beyond(c);
-        i += 1;
+        bad |= controls_beyond(c);
     }
     bad
 }
@@ -87,11 +85,9 @@ fn store_sums(row: &[i32], details: &[i32], w: usize, h: usize, j: usize, out: &
         ≡ sets out.old (stride * (j * w)) (row_run (row_sums row.now details.now w) w j) }
 {
     let at = STRIDE * (j * w);
-    let mut i = 0;
-    while i < w {
+    for i in 0..w {
         let c = vertex_sums(row, details, w, h, i, j);
         store_triangle(c, at + STRIDE * i, out);
-        i += 1;
     }
 }
 
@@ -143,10 +139,8 @@ fn rows_beyond(coarse: &[i32], details: &[i32], w: usize, h: usize) -> bool
     let high = 2 * h - 1;
     let mut row = [1i32; ROW_SIZE];
     let mut bad = false;
-    let mut j = 0;
-    while j < high {
-        bad = bad | merged_row_beyond(coarse, details, w, h, j, &mut row);
-        j += 1;
+    for j in 0..high {
+        bad |= merged_row_beyond(coarse, details, w, h, j, &mut row);
     }
     bad
 }
@@ -187,9 +181,7 @@ pub fn store_merged(coarse: &[i32], details: &[i32], w: usize, h: usize, out: &m
 {
     let high = 2 * h - 1;
     let mut row = [1i32; ROW_SIZE];
-    let mut j = 0;
-    while j < high {
+    for j in 0..high {
         store_merged_row(coarse, details, w, h, j, &mut row, out);
-        j += 1;
     }
 }

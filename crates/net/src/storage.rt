@@ -56,11 +56,8 @@ pub fn any_beyond(numbers: &[i32]) -> bool
     ensures { result ≡ any_beyond numbers.now }
 {
     let mut bad = false;
-    let mut i = 0;
-    while i < numbers.len() {
-        let z = numbers[i];
-        bad = bad | number_beyond(z);
-        i += 1;
+    for &z in numbers {
+        bad |= number_beyond(z);
     }
     bad
 }

@@ -27,11 +27,8 @@ fn any_above_one(bytes: &[u8]) -> bool
     ensures { result ≡ any_above_one bytes.now }
 {
     let mut bad = false;
-    let mut i = 0;
-    while i < bytes.len() {
-        let b = bytes[i];
-        bad = bad | (1 < b);
-        i += 1;
+    for &b in bytes {
+        bad |= 1 < b;
     }
     bad
 }

@@ -42,10 +42,8 @@ fn join_row(outline: &[u8], w: usize, h: usize, j: usize, links: &mut [u32])
     requires { Searched outline.now w h links.old × (j + 2 ≤ h) }
     ensures { Joined (InRow j) outline.now w h links.old links.new }
 {
-    let mut i = 0;
-    while i + 1 < w {
+    for i in 0..w - 1 {
         join_cell(outline, w, h, i, j, links);
-        i += 1;
     }
 }
 
@@ -54,10 +52,8 @@ fn join_cells(outline: &[u8], w: usize, h: usize, links: &mut [u32])
     requires { Searched outline.now w h links.old }
     ensures { Joined Anywhere outline.now w h links.old links.new }
 {
-    let mut j = 0;
-    while j + 1 < h {
+    for j in 0..h - 1 {
         join_row(outline, w, h, j, links);
-        j += 1;
     }
 }
 
@@ -67,10 +63,8 @@ fn one_root(outline: &[u8], links: &[u32]) -> bool
     ensures { result ≡ eqb (roots outline.now links.now (length links.now)) 1 }
 {
     let mut count = 0u32;
-    let mut t = 0;
-    while t < links.len() {
-        count += ((outline[t] == 1) & (links[t] == t as u32)) as u32;
-        t += 1;
+    for (t, &link) in links.iter().enumerate() {
+        count += ((outline[t] == 1) & (link == t as u32)) as u32;
     }
     count == 1
 }

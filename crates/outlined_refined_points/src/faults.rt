@@ -19,13 +19,7 @@ fn fine_edge(k: usize) -> usize
     requires { k ≤ 6 }
     ensures { result ≡ fine_edge k }
 {
-    let mut edge = 1024;
-    let mut i = 0;
-    while i < k {
-        edge = 2 * edge;
-        i += 1;
-    }
-    edge
+    1024 << k
 }
 
 // The first of 2, 13 and 15, or 0. The place is one of the refined grid.

@@ -1,6 +1,6 @@
 // The reader: the whole file is checked before the first number is stored. Callers in this file establish the
 // preconditions of the inner functions.
-ghost use Rattle.std.specs.Prelude.{◌≡◌, false, ◌||◌, [], ◌∷◌, ◌+◌, ◌*◌, ◌≤◌, min, ltb, length};
+ghost use Rattle.std.specs.Prelude.{◌≡◌, false, ◌||◌, [], ◌∷◌, ◌+◌, ◌*◌, ◌≤◌, ltb, length};
 ghost use Rattle.exact.specs.Filling.{over, runs};
 ghost use Rattle.net.specs.Net.{numbers, point_stride};
 ghost use Rattle.net.specs.Refusals.{bad_size, first_fault};
@@ -99,23 +99,14 @@ fn whole_points_refusal(file: &[u8], n: usize) -> u32
     requires { point_place n ≤ length file.now }
     ensures { result ≡ first_fault (runs n (λ i. point_faults (from_point file.now i))) }
 {
-    let mut i = 0;
-    while i < n {
+    for i in 0..n {
         let at = HEAD_SIZE + POINT_SIZE * i;
         let refusal = point_refusal(&file[at..at + POINT_SIZE]);
         if refusal != 0 {
             return refusal;
         }
-        i += 1;
     }
     0
-}
-
-// The lesser of two counts.
-fn lesser(a: usize, b: usize) -> usize
-    ensures { result ≡ min a b }
-{
-    if a < b { a } else { b }
 }
 
 // The same of n control points: those that are whole, and the one after them where the file ends in it.
@@ -123,7 +114,7 @@ fn points_refusal(file: &[u8], n: usize) -> u32
     requires { head_size ≤ length file.now }
     ensures { result ≡ first_fault (runs n (λ i. point_faults (from_point file.now i))) }
 {
-    let whole = lesser(n, (file.len() - HEAD_SIZE) / POINT_SIZE);
+    let whole = n.min((file.len() - HEAD_SIZE) / POINT_SIZE);
     let refusal = whole_points_refusal(file, whole);
     if refusal != 0 {
         return refusal;
@@ -182,14 +173,12 @@ fn load_points(file: &[u8], n: usize, net: &mut [i32])
     ensures { net.new
         ≡ over (runs n (λ i. first_point (from_point file.now i))) net.old }
 {
-    let mut i = 0;
-    while i < n {
+    for i in 0..n {
         store_point(
             first_point(&file[HEAD_SIZE + POINT_SIZE * i..]),
             POINT_STRIDE * i,
             net,
         );
-        i += 1;
     }
 }
 

@@ -70,11 +70,9 @@ fn store_row_details(net: &[i32], row: &[i32], w: usize, h: usize, j: usize, det
         (grid_row (detail_run (row_differences net.now row.now w)) w j) }
 {
     let at = DETAIL_STRIDE * (j * w);
-    let mut i = 0;
-    while i < w {
+    for i in 0..w {
         let d = vertex_differences(net, row, w, h, i, j);
         store_details(d, at + DETAIL_STRIDE * i, details);
-        i += 1;
     }
 }
 
@@ -109,9 +107,7 @@ pub fn store_differences(net: &[i32], w: usize, h: usize, coarse: &[i32], detail
         ≡ over (details_against net.now coarse.now w h) details.old }
 {
     let mut row = [1i32; ROW_SIZE];
-    let mut j = 0;
-    while j < h {
+    for j in 0..h {
         store_difference_row(net, w, h, coarse, j, &mut row, details);
-        j += 1;
     }
 }

@@ -14,10 +14,8 @@ pub fn side_after(n: usize, k: usize) -> usize
     ensures { result ≡ side_after k n }
 {
     let mut side = n;
-    let mut i = 0;
-    while i < k {
+    for _ in 0..k {
         side = 2 * side - 1;
-        i += 1;
     }
     side
 }

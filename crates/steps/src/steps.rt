@@ -21,10 +21,8 @@ pub fn refine_row(net: &[i32], w: usize, h: usize, j: usize, at: usize, out: &mu
     ensures { out.new
         ≡ sets out.old at (row_run (refined_fields net.now w) (refined_side w) j) }
 {
-    let mut m = 0;
-    while m < w {
+    for m in 0..w {
         store_pair(net, w, h, j, m, at + 2 * STRIDE * m, out);
-        m += 1;
     }
 }
 
@@ -35,10 +33,8 @@ fn refine_once(net: &[i32], w: usize, h: usize, out: &mut [i32])
 {
     let wide = 2 * w - 1;
     let high = 2 * h - 1;
-    let mut j = 0;
-    while j < high {
+    for j in 0..high {
         refine_row(net, w, h, j, STRIDE * (j * wide), out);
-        j += 1;
     }
 }
 

@@ -49,11 +49,8 @@ fn evaluate(ahead: bool, a: usize, b: usize, g: usize, c: [[[i32; 3]; 3]; 3]) ->
     ensures z_value { result.z ≡ evaluated ahead a b g c 2 }
 {
     let mut point = [0i32; 3];
-    let mut i = 0;
-    while i < 3 {
-        let value = coordinate_at(ahead, a, b, g, c, i);
-        point[i] = value;
-        i += 1;
+    for (i, value) in point.iter_mut().enumerate() {
+        *value = coordinate_at(ahead, a, b, g, c, i);
     }
     let x = point[0];
     let y = point[1];

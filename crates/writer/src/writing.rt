@@ -63,10 +63,8 @@ fn store_points(net: &[i32], n: usize, out: &mut [u8])
     ensures { out.new
         ≡ sets out.old head_size (runs n (λ i. point_bytes net.now (point_stride * i))) }
 {
-    let mut i = 0;
-    while i < n {
+    for i in 0..n {
         store_numbers(net, POINT_STRIDE * i, HEAD_SIZE + POINT_SIZE * i, out);
-        i += 1;
     }
 }
 

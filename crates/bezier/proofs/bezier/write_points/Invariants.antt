@@ -1,9 +1,8 @@
 -- `bezier::bezier::write_points` meets its contract: each iteration stores one coordinate more.
 use mathlib.Core.Path.{◌≡◌}
 use mathlib.Core.List.{List}
-use Prim.Native.Nat.{ℕ, ◌-◌, ◌≤◌}
+use Prim.Native.Nat.{ℕ}
 use lib.IntN.{ℤ}
-use lib.ListN.{length}
 use Rattle.triangles.specs.Corners.{values_in}
 use Rattle.bezier.specs.Weights.{points_of}
 use Rattle.bezier.proofs.Placing.{passes}
@@ -14,9 +13,4 @@ abbrev pub points : List (List (List ℤ)) → ℕ → List ℤ
 points controls x = points_of (values_in controls x)
 
 abbrev pub invariant-loop-x : goal.invariant-loop-x
-invariant-loop-x l =
-    (l.x ≤ 3) × (length l.out ≡ length l.initial.out) × (l.out ≡ passes l.x (points l.controls) l.initial.out)
-
-abbrev pub decreases-loop-x : goal.decreases-loop-x
-decreases-loop-x l =
-    3 - l.x
+invariant-loop-x l = l.out ≡ passes l.x (points l.controls) l.initial.out

@@ -2,9 +2,8 @@
 -- the range.
 use mathlib.Core.Path.{◌≡◌, refl, sym, ap, ◌∙◌}
 use mathlib.Core.Bool.{◌||◌}
-use Prim.Native.Nat.{ℕ, ◌-◌}
+use Prim.Native.Nat.{ℕ}
 use native.Mathlib.Omega.{arith}
-use borrow.Author.Rules.{rules}
 use Rattle.exact.specs.Filling.{runs}
 use Rattle.net.specs.Refusals.{net_limit, any_beyond}
 use Rattle.steps.specs.RefinedNet.{row_run}
@@ -15,21 +14,19 @@ use Rattle.coarse.proofs.coarse.coarse_beyond.Goals as goal
 
 pub loop-j-init : goal.loop-j-init
 unfolding runs
-loop-j-init c = (omega arith, refl)
+loop-j-init c = refl
 
 pub loop-j-preserved : goal.loop-j-preserved
 loop-j-preserved c =
     let at = c.loop-j in
-    let a = c.args in (
-      search rules,
-      (λ t. at.invariant.1 t || c.coarse_row_beyond-bad.ensures t)
-          ∙ sym (any_collected net_limit at.j (row_run (coarse_fields a.net.now a.w) (coarse_side a.w))),
-    )
+    let a = c.args in
+    (λ t. at.invariant t || c.coarse_row_beyond-bad.ensures t)
+    ∙ sym (any_collected net_limit at.j (row_run (coarse_fields a.net.now a.w) (coarse_side a.w)))
 
 pub returns : goal.returns
 returns c =
     let a = c.args in
     let all : c.loop-j.j ≡ coarse_side a.h = omega arith in
-    c.loop-j.invariant.1
+    c.loop-j.invariant
     ∙ ap (λ (n : ℕ). any_beyond (runs n (row_run (coarse_fields a.net.now a.w) (coarse_side a.w)))) all
     ∙ sym (rows_tested a.net.now a.w a.h)

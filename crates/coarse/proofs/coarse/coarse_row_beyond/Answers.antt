@@ -2,9 +2,6 @@
 -- beyond the range.
 use mathlib.Core.Path.{refl, sym, ap, ◌∙◌}
 use mathlib.Core.Bool.{◌||◌}
-use Prim.Native.Nat.{◌-◌}
-use native.Mathlib.Omega.{arith}
-use borrow.Author.Rules.{rules}
 use Rattle.exact.specs.Filling.{runs}
 use Rattle.net.specs.Refusals.{net_limit, controls_beyond}
 use Rattle.coarse.specs.Coarse.{coarse_controls}
@@ -14,13 +11,12 @@ use Rattle.coarse.proofs.coarse.coarse_row_beyond.Goals as goal
 
 pub loop-i-init : goal.loop-i-init
 unfolding runs
-loop-i-init c = (omega arith, refl)
+loop-i-init c = refl
 
 pub coarse_vertex-requires : goal.coarse_vertex-requires
 coarse_vertex-requires c =
-    let s = c in
-    let a = s.args in
-    kept_vertex a.net.now a.w a.h c.loop-i.i a.j s.requires.0 c.loop-i-test.true s.requires.1
+    let a = c.args in
+    kept_vertex a.net.now a.w a.h c.loop-i.i a.j c.requires.0 c.loop-i-test.true c.requires.1
 
 pub loop-i-preserved : goal.loop-i-preserved
 unfolding coarse_controls
@@ -28,4 +24,4 @@ loop-i-preserved c =
     let at = c.loop-i in
     let a = c.args in
     let found = c.controls_beyond-bad.ensures ∙ ap controls_beyond c.coarse_vertex.ensures in
-    (search rules, (λ t. at.invariant.1 t || found t) ∙ sym (any_collected net_limit at.i (run_in_row a.net.now a.w a.j)))
+    (λ t. at.invariant t || found t) ∙ sym (any_collected net_limit at.i (run_in_row a.net.now a.w a.j))

@@ -1,7 +1,6 @@
 -- `coarse::coarse::coarse_row_beyond` meets its contract: what was found is whether a number of a vertex before i is
 -- beyond the range.
 use mathlib.Core.Path.{◌≡◌}
-use Prim.Native.Nat.{◌-◌, ◌≤◌}
 use Rattle.exact.specs.Filling.{runs}
 use Rattle.net.specs.Refusals.{any_beyond}
 use Rattle.coarse.proofs.CoarseLaws.{run_in_row}
@@ -9,8 +8,4 @@ use Rattle.coarse.proofs.coarse.coarse_row_beyond.Given as goal
 
 abbrev pub invariant-loop-i : goal.invariant-loop-i
 invariant-loop-i l =
-    (l.i ≤ l.wide) × (l.bad ≡ any_beyond (runs l.i (run_in_row l.net l.w l.j)))
-
-abbrev pub decreases-loop-i : goal.decreases-loop-i
-decreases-loop-i l =
-    l.wide - l.i
+    l.bad ≡ any_beyond (runs l.i (run_in_row l.net l.w l.j))

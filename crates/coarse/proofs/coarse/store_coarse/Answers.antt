@@ -1,13 +1,12 @@
 -- `coarse::coarse::store_coarse` meets its contract.
 use mathlib.Core.List.{List}
 use mathlib.Core.Path.{◌≡◌, refl, sym, ap, ◌∙◌}
-use Prim.Native.Nat.{ℕ, ◌+◌, ◌-◌, ◌*◌, ◌≤◌, ◌<◌}
+use Prim.Native.Nat.{ℕ, ◌+◌, ◌*◌, ◌≤◌, ◌<◌}
 use native.Mathlib.Nat.{mul_assoc, mul_comm, mul-le-mul, le_refl}
 use native.Mathlib.Omega.{arith}
 use lib.IntN.{ℤ}
 use lib.ListN.{length}
 use lib.Seq.{sets}
-use borrow.Author.Rules.{rules}
 use Rattle.exact.specs.Filling.{over, runs}
 use Rattle.exact.proofs.FillingLaws.{over_none, over_more}
 use Rattle.net.specs.Net.{stride, numbers}
@@ -35,26 +34,20 @@ next_row net w h j old out below roomy e =
     ∙ over_more old j (wide * stride) (row_run F wide) (λ m h. row_length stride (vertex_run F) (λ v. refl) wide m) fits
 
 pub loop-j-init : goal.loop-j-init
-loop-j-init c = (omega arith, refl, over_none _ _)
+loop-j-init c = over_none _ _
 
 pub loop-j-preserved : goal.loop-j-preserved
 loop-j-preserved c =
-    let k = c in
-    let s = c in
-    let a = s.args in
-    let at = k.loop-j in (
-      search rules,
-      search rules,
-      c.store_coarse_row.ensures
-          ∙ next_row a.net.now a.w a.h at.j a.coarse.now at.coarse k.loop-j-test.true s.requires.1
-          at.invariant.2,
-    )
+    let a = c.args in
+    let at = c.loop-j in
+    c.store_coarse_row.ensures
+    ∙ next_row a.net.now a.w a.h at.j a.coarse.now at.coarse c.loop-j-test.true c.requires.1 at.invariant
 
 pub returns : goal.returns
 returns c =
     let a = c.args in
     let row = row_run (coarse_fields a.net.now a.w) (coarse_side a.w) in
     let all : c.loop-j.j ≡ coarse_side a.h = omega arith in
-    c.loop-j.invariant.2
+    c.loop-j.invariant
     ∙ ap (λ (n : ℕ). over (runs n row) a.coarse.now) all
     ∙ ap (λ (l : List ℤ). over l a.coarse.now) (sym (coarse_by_rows a.net.now a.w a.h))

@@ -1,7 +1,5 @@
 -- `coarse::coarse::store_coarse` meets its contract.
 use mathlib.Core.Path.{◌≡◌}
-use Prim.Native.Nat.{◌-◌, ◌≤◌}
-use lib.ListN.{length}
 use Rattle.exact.specs.Filling.{over, runs}
 use Rattle.steps.specs.RefinedNet.{row_run}
 use Rattle.coarse.specs.Coarse.{coarse_side, coarse_fields}
@@ -9,9 +7,4 @@ use Rattle.coarse.proofs.coarse.store_coarse.Given as goal
 
 abbrev pub invariant-loop-j : goal.invariant-loop-j
 invariant-loop-j l =
-    (l.j ≤ l.high) × (length l.coarse ≡ length l.initial.coarse)
-    × (l.coarse ≡ over (runs l.j (row_run (coarse_fields l.net l.w) (coarse_side l.w))) l.initial.coarse)
-
-abbrev pub decreases-loop-j : goal.decreases-loop-j
-decreases-loop-j l =
-    l.high - l.j
+    l.coarse ≡ over (runs l.j (row_run (coarse_fields l.net l.w) (coarse_side l.w))) l.initial.coarse

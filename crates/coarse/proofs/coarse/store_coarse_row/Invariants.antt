@@ -1,7 +1,6 @@
 -- `coarse::coarse::store_coarse_row` meets its contract.
 use mathlib.Core.Path.{◌≡◌}
-use Prim.Native.Nat.{◌-◌, ◌*◌, ◌≤◌}
-use lib.ListN.{length}
+use Prim.Native.Nat.{◌*◌}
 use lib.Seq.{sets}
 use Rattle.exact.specs.Filling.{runs}
 use Rattle.net.specs.Net.{stride}
@@ -10,9 +9,4 @@ use Rattle.coarse.proofs.coarse.store_coarse_row.Given as goal
 
 abbrev pub invariant-loop-i : goal.invariant-loop-i
 invariant-loop-i l =
-    (l.i ≤ l.wide) × (length l.coarse ≡ length l.initial.coarse)
-    × (l.coarse ≡ sets l.initial.coarse (stride * (l.j * l.wide)) (runs l.i (run_in_row l.net l.w l.j)))
-
-abbrev pub decreases-loop-i : goal.decreases-loop-i
-decreases-loop-i l =
-    l.wide - l.i
+    l.coarse ≡ sets l.initial.coarse (stride * (l.j * l.wide)) (runs l.i (run_in_row l.net l.w l.j))

@@ -1,11 +1,12 @@
--- `details::cleaning::clean_first` meets its contract: the numbers before i are cleaned, the others are as they were.
+-- `details::cleaning::clean_first` meets its contract: the details so far are cleaned, the others are as they were.
 use mathlib.Core.Path.{◌≡◌, refl, sym, ap, ◌∙◌}
-use mathlib.Core.List.{List, [], ◌∷◌, map}
-use Prim.Native.Nat.{ℕ, zero, suc, ◌-◌, ◌<◌}
+use mathlib.Core.List.{List, [], ◌∷◌, ◌++◌, map, append-nil}
+use Prim.Native.Nat.{ℕ, zero, suc, ◌<◌, ◌≤◌}
 use native.Mathlib.Nat.{le_of_suc-le-suc, not-suc-le-zero}
 use native.Mathlib.Numerals.{add-one}
 use native.Mathlib.Omega.{arith}
-use lib.ListN.{length, set, take}
+use lib.ListN.{length, set, take, drop, length-map, drop_of_length-le}
+use lib.Seq.{length-take-le, take_all}
 use lib.IntN.{ℤ}
 use mir.Syntax.{w32}
 use borrow.Author.Rules.{rules}
@@ -30,22 +31,37 @@ module _ (f : ℤ → ℤ) where
   one_more (z ∷ l) zero h = refl
   one_more (z ∷ l) (suc i) h = ap (λ (m : List ℤ). f z ∷ m) (one_more l i (le_of_suc-le-suc h))
 
-pub loop-i-init : goal.loop-i-init
+pub loop-z-init : goal.loop-z-init
 unfolding over
-loop-i-init c = (omega arith, refl, refl)
+loop-z-init c = refl
 
-pub loop-i-preserved : goal.loop-i-preserved
-loop-i-preserved c =
-    let at = c in
-    let old = at.args.details.now in
-    let f = cleaned at.args.t in
-    let i = at.loop-i.i in
+pub loop-z-preserved : goal.loop-z-preserved
+loop-z-preserved c =
+    let at = c.loop-z in
+    let old = take c.args.n c.args.details.now in
+    let f = cleaned c.args.t in
+    let i = at.z-index in
     let here : i < length old = omega arith in
-    let read = reads_back w32 (number at.loop-i.details i) c.z-1.given
-    ∙ ap (λ (l : List ℤ). number l i) at.loop-i.invariant.2 ∙ next_old f old i here in
-    let stored = reads_as w32 c.cleaned_number-c.result c.cleaned_number-c.type_inv (c.cleaned_number-c.ensures ∙ ap f read) in (
-      search rules,
-      search rules,
-      (λ u. set (at.loop-i.invariant.2 u) i (stored u)) ∙ one_more f old i here
-          ∙ ap (λ (k : ℕ). over (map f (take k old)) old) (sym (add-one i)),
-    )
+    let read = reads_back w32 (number at.z-items i) (search rules)
+    ∙ ap (λ (l : List ℤ). number l i) at.invariant ∙ next_old f old i here in
+    let stored = reads_as w32 c.cleaned_number.result c.cleaned_number.type_inv (c.cleaned_number.ensures ∙ ap f read) in
+    (λ u. set (at.invariant u) i (stored u)) ∙ one_more f old i here
+    ∙ ap (λ (k : ℕ). over (map f (take k old)) old) (sym (add-one i))
+
+-- a list as long as another leaves nothing of it
+over_all : (new old : List ℤ) → length old ≤ length new → over new old ≡ new
+unfolding over
+over_all new old h = ap (λ (l : List ℤ). new ++ l) (drop_of_length-le old h) ∙ append-nil new
+
+pub returns : goal.returns
+unfolding over
+returns c =
+    let at = c.loop-z in
+    let details = c.args.details.now in
+    let old = take c.args.n details in
+    let f = cleaned c.args.t in
+    let size : length (map f old) ≡ c.args.n = length-map old f ∙ length-take-le c.args.n details c.requires.0 in
+    let cleaned_all : at.z-items ≡ map f old = at.invariant
+    ∙ ap (λ (l : List ℤ). over (map f l) old) (take_all at.z-index old (omega arith))
+    ∙ over_all (map f old) old (omega (arith, length-map old f)) in
+    λ u. cleaned_all u ++ drop (sym size u) details

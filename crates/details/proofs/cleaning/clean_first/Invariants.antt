@@ -1,16 +1,11 @@
--- `details::cleaning::clean_first` meets its contract: the numbers before i are cleaned, the others are as they were.
+-- `details::cleaning::clean_first` meets its contract: the details so far are cleaned, the others are as they were.
 use mathlib.Core.Path.{◌≡◌}
 use mathlib.Core.List.{map}
-use Prim.Native.Nat.{◌-◌, ◌≤◌}
-use lib.ListN.{length, take}
+use lib.ListN.{take}
 use Rattle.exact.specs.Filling.{over}
 use Rattle.details.specs.Cleaning.{cleaned}
 use Rattle.details.proofs.cleaning.clean_first.Given as goal
 
-abbrev pub invariant-loop-i : goal.invariant-loop-i
-invariant-loop-i l =
-    (l.i ≤ l.n) × (length l.details ≡ length l.initial.details) × (l.details ≡ over (map (cleaned l.t) (take l.i l.initial.details)) l.initial.details)
-
-abbrev pub decreases-loop-i : goal.decreases-loop-i
-decreases-loop-i l =
-    l.n - l.i
+abbrev pub invariant-loop-z : goal.invariant-loop-z
+invariant-loop-z l =
+    l.z-items ≡ over (map (cleaned l.t) (take l.z-index l.initial.z-items)) l.initial.z-items

@@ -11,12 +11,12 @@ use Rattle.outline.specs.Outline.{triangles}
 use Rattle.door.specs.Cells.{Small}
 use Rattle.door.proofs.CellLaws.{small_cell, found_in_four}
 use Rattle.door.proofs.cells.on_door.Goals as goal
-use Rattle.door.proofs.cells.on_door.Goals.{After-previous-l, Start}
+use Rattle.door.proofs.cells.on_door.Goals.{After-saturating_sub-l, Start}
 
 -- with the columns i, k and the rows j, l known
-module _ (c : After-previous-l) where
+module _ (c : After-saturating_sub-l) where
   abbrev start : Start
-  start = (goal.at.After-previous-l c).Start
+  start = (goal.at.After-saturating_sub-l c).Start
 
   abbrev bytes : List ℕ
   bytes = start.args.outline.now
@@ -28,16 +28,16 @@ module _ (c : After-previous-l) where
   j = start.args.q / start.args.d
 
   abbrev k : ℕ
-  k = c.previous-k.result
+  k = c.saturating_sub-k.result
 
   abbrev l : ℕ
-  l = c.previous-l.result
+  l = c.saturating_sub-l.result
 
   column_before : k ≤ i
-  column_before = omega (arith, c.previous-k.ensures)
+  column_before = omega arith
 
   row_before : l ≤ j
-  row_before = omega (arith, c.previous-l.ensures)
+  row_before = omega arith
 
   known : (m n : ℕ) → m ≤ i → n ≤ j →
       (bad_size start.args.w start.args.h ≡ false)
@@ -50,23 +50,23 @@ module _ (c : After-previous-l) where
 
 pub cell_has-left-requires : goal.cell_has-left-requires
 cell_has-left-requires c =
-    let s = (goal.at.cell_has-left-requires c).After-previous-l in
+    let s = (goal.at.cell_has-left-requires c).After-saturating_sub-l in
     known s (k s) (j s) (column_before s) (le_refl (j s))
 
 pub cell_has-below-requires : goal.cell_has-below-requires
 cell_has-below-requires c =
-    let s = (goal.at.cell_has-below-requires c).After-previous-l in
+    let s = (goal.at.cell_has-below-requires c).After-saturating_sub-l in
     known s (i s) (l s) (le_refl (i s)) (row_before s)
 
 pub cell_has-both-requires : goal.cell_has-both-requires
 cell_has-both-requires c =
-    let s = (goal.at.cell_has-both-requires c).After-previous-l in
+    let s = (goal.at.cell_has-both-requires c).After-saturating_sub-l in
     known s (k s) (l s) (column_before s) (row_before s)
 
 pub returns : goal.returns
 returns c =
-    let s = (goal.at.returns c).After-previous-l in
+    let s = (goal.at.returns c).After-saturating_sub-l in
     let a = (start s).args in
     found_in_four a.d (bytes s) a.w a.h a.p a.q (start s).requires.0 (start s).requires.2
-    s.previous-k.ensures s.previous-l.ensures c.cell_has-here.ensures
+    s.saturating_sub-k.ensures s.saturating_sub-l.ensures c.cell_has-here.ensures
     c.cell_has-left.ensures c.cell_has-below.ensures c.cell_has-both.ensures

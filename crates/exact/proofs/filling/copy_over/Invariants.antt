@@ -2,8 +2,8 @@
 -- and the runs of a list's numbers are the list.
 use mathlib.Core.Path.{◌≡◌}
 use mathlib.Core.List.{List, [], ◌∷◌}
-use Prim.Native.Nat.{ℕ, ◌-◌, ◌≤◌}
-use lib.ListN.{length, get_or}
+use Prim.Native.Nat.{ℕ}
+use lib.ListN.{get_or}
 use lib.IntN.{ℤ, pos}
 use Rattle.exact.specs.Filling.{over, runs}
 use Rattle.exact.proofs.filling.copy_over.Given as goal
@@ -14,8 +14,4 @@ single numbers i = get_or numbers i (pos 0) ∷ []
 
 abbrev pub invariant-loop-i : goal.invariant-loop-i
 invariant-loop-i l =
-    (l.i ≤ length l.numbers) × (length l.out ≡ length l.initial.out) × (l.out ≡ over (runs l.i (single l.numbers)) l.initial.out)
-
-abbrev pub decreases-loop-i : goal.decreases-loop-i
-decreases-loop-i l =
-    length l.numbers - l.i
+    l.out ≡ over (runs l.i (single l.numbers)) l.initial.out

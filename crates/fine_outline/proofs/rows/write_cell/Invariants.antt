@@ -2,9 +2,8 @@
 use mathlib.Core.Path.{◌≡◌}
 use mathlib.Core.Bool.{cond}
 use mathlib.Core.List.{List, [], ◌∷◌}
-use Prim.Native.Nat.{ℕ, ◌+◌, ◌-◌, ◌*◌, ◌/◌, ◌%◌, ◌≤◌}
+use Prim.Native.Nat.{ℕ, ◌+◌, ◌/◌, ◌%◌}
 use lib.Dec.{leb}
-use lib.ListN.{length}
 use lib.Seq.{sets}
 use Rattle.exact.specs.Filling.{runs}
 use Rattle.fine_outline.proofs.rows.write_cell.Given as goal
@@ -14,9 +13,4 @@ abbrev pub byte_at : ℕ → ℕ → ℕ → ℕ → ℕ → List ℕ
 byte_at up down s g n = cond (leb s (n / 2 + g + n % 2)) down up ∷ []
 
 abbrev pub invariant-loop-n : goal.invariant-loop-n
-invariant-loop-n l =
-    (l.n ≤ 2 * l.s) × (length l.fine ≡ length l.initial.fine) × (l.fine ≡ sets l.initial.fine l.at (runs l.n (byte_at l.up l.down l.s l.g)))
-
-abbrev pub decreases-loop-n : goal.decreases-loop-n
-decreases-loop-n l =
-    2 * l.s - l.n
+invariant-loop-n l = l.fine ≡ sets l.initial.fine l.at (runs l.n (byte_at l.up l.down l.s l.g))

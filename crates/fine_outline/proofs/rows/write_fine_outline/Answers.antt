@@ -7,7 +7,6 @@ use native.Mathlib.Nat.{mul-le-mul_right}
 use native.Mathlib.Omega.{arith}
 use lib.Dec.{lit≤}
 use lib.ListN.{length}
-use borrow.Author.Rules.{rules}
 use Rattle.exact.specs.Filling.{over, runs}
 use Rattle.exact.proofs.FillingLaws.{over_none}
 use Rattle.steps.proofs.Sides.{side_cells}
@@ -34,16 +33,11 @@ pub overflow_mul-rows : goal.overflow_mul-rows
 overflow_mul-rows c = omega (arith, (ready c c.args.fine.now refl).low)
 
 pub loop-r-init : goal.loop-r-init
-loop-r-init c = (omega arith, refl, over_none _ _)
+loop-r-init c = over_none _ _
 
 pub write_row-requires : goal.write_row-requires
 write_row-requires c =
-    (ready (goal.at.write_row-requires c).After-side_after-s _ c.loop-r.invariant.1, c.loop-r-test.true)
-
-pub overflow_add-r : goal.overflow_add-r
-overflow_add-r c =
-    let called = (goal.at.overflow_add-r c).After-side_after-s in
-    omega (arith, (ready called called.args.fine.now refl).low)
+    (ready (goal.at.write_row-requires c).After-side_after-s _ c.loop-r.auto.fine, c.loop-r-test.true)
 
 pub loop-r-preserved : goal.loop-r-preserved
 loop-r-preserved c =
@@ -57,12 +51,8 @@ loop-r-preserved c =
       arith,
       mul-le-mul_right size c.loop-r-test.true,
       (ready called a.fine.now refl).room,
-    ) in (
-      search rules,
-      search rules,
-      rows_more a.outline.now a.fine.now a.w s at.r fits c.write_row.ensures
-          at.invariant.2,
-    )
+    ) in
+    rows_more a.outline.now a.fine.now a.w s at.r fits c.write_row.ensures at.invariant
 
 pub returns : goal.returns
 returns c =
@@ -71,7 +61,7 @@ returns c =
     let pre = called.requires in
     let s : ℕ = called.side_after-s.result - 1 in
     let all : c.loop-r.r ≡ s * (a.h - 1) = omega arith in
-    c.loop-r.invariant.2
+    c.loop-r.invariant
     ∙ ap (λ (n : ℕ). over (runs n (row_run a.outline.now a.w s)) a.fine.now) all
     ∙ ap (λ (m : ℕ). over (runs (m * (a.h - 1)) (row_run a.outline.now a.w m)) a.fine.now) (cells called)
     ∙ ap (λ (l : List ℕ). over l a.fine.now)

@@ -1,11 +1,9 @@
 -- `fine_outline::rows::write_row` meets its contract: each iteration stores the part of one cell more.
-use mathlib.Core.Path.{refl}
 use mathlib.Core.List.{List}
 use Prim.Native.Nat.{ℕ, ◌+◌, ◌-◌, ◌*◌, ◌/◌, ◌≤◌, ◌<◌}
 use native.Mathlib.Nat.{mod-lt}
 use native.Mathlib.Omega.{arith}
 use lib.ListN.{length}
-use borrow.Author.Rules.{rules}
 use Rattle.exact.proofs.FillingLaws.{runs_none}
 use Rattle.fine_outline.proofs.RowLaws.{parts_more, all_length, cell_bytes, part_ends}
 use Rattle.fine_outline.proofs.rows.write_row.Goals as goal
@@ -33,7 +31,7 @@ written c =
     }
 
 pub loop-i-init : goal.loop-i-init
-loop-i-init c = (omega arith, refl, runs_none _ _ _)
+loop-i-init c = runs_none _ _ _
 
 pub bounds-outline-n : goal.bounds-outline-n
 bounds-outline-n c = omega (arith, read (goal.at.bounds-outline-n c).In-loop-i)
@@ -46,15 +44,12 @@ write_cell-requires c =
     let s = c in (
       mod-lt s.args.r s.requires.0.some,
       s.requires.0.few,
-      omega (arith, (written (goal.at.write_cell-requires c).In-loop-i).inside, c.loop-i.invariant.1),
+      omega (arith, (written (goal.at.write_cell-requires c).In-loop-i).inside, c.loop-i.auto.fine),
     )
 
 pub loop-i-preserved : goal.loop-i-preserved
 loop-i-preserved c =
     let a = c.args in
-    let at = c.loop-i in (
-      search rules,
-      search rules,
-      parts_more a.outline.now a.fine.now a.w a.s a.r (a.r * ((a.w - 1) * (2 * a.s))) at.i
-          c.write_cell.ensures at.invariant.2,
-    )
+    let at = c.loop-i in
+    parts_more a.outline.now a.fine.now a.w a.s a.r (a.r * ((a.w - 1) * (2 * a.s))) at.i
+    c.write_cell.ensures at.invariant

@@ -1,8 +1,7 @@
 -- `graphs::links::link_self` meets its contract: each iteration stores one run of one number more.
 use mathlib.Core.Path.{◌≡◌}
 use mathlib.Core.List.{List, [], ◌∷◌}
-use Prim.Native.Nat.{ℕ, ◌-◌, ◌≤◌}
-use lib.ListN.{length}
+use Prim.Native.Nat.{ℕ}
 use Rattle.exact.specs.Filling.{over, runs}
 use Rattle.graphs.proofs.links.link_self.Given as goal
 
@@ -10,9 +9,4 @@ abbrev pub own : ℕ → List ℕ
 own t = t ∷ []
 
 abbrev pub invariant-loop-t : goal.invariant-loop-t
-invariant-loop-t l =
-    (l.t ≤ length l.initial.links) × (length l.links ≡ length l.initial.links) × (l.links ≡ over (runs l.t own) l.initial.links)
-
-abbrev pub decreases-loop-t : goal.decreases-loop-t
-decreases-loop-t l =
-    length l.initial.links - l.t
+invariant-loop-t l = l.links ≡ over (runs l.t own) l.initial.links

@@ -1,11 +1,9 @@
 -- `hermite::nets::hermite_beyond` meets its contract.
 use mathlib.Core.Path.{◌≡◌, refl, sym, ap, ◌∙◌}
-use mathlib.Core.Bool.{false}
 use mathlib.Core.List.{List}
-use Prim.Native.Nat.{ℕ, ◌-◌, ◌*◌}
+use Prim.Native.Nat.{ℕ, ◌*◌}
 use native.Mathlib.Omega.{arith}
 use lib.IntN.{ℤ}
-use borrow.Author.Rules.{rules}
 use Rattle.exact.specs.Filling.{runs}
 use Rattle.net.specs.Refusals.{net_limit, any_beyond, controls_beyond}
 use Rattle.net.proofs.Ranges.{any_more, any_in_runs}
@@ -16,7 +14,7 @@ use Rattle.hermite.proofs.nets.hermite_beyond.Goals.{After-triangle_beyond}
 
 pub loop-n-init : goal.loop-n-init
 unfolding runs
-loop-n-init c = (omega arith, refl)
+loop-n-init c = refl
 
 -- the test of vertex n, of the numbers of that vertex
 tested : (c : After-triangle_beyond) →
@@ -40,15 +38,13 @@ returns-then-triangle_beyond c =
 pub loop-n-preserved : goal.loop-n-preserved
 loop-n-preserved c =
     let k = (goal.at.loop-n-preserved c).After-triangle_beyond in
-    let a = k.args in (
-      search rules,
-      any_more net_limit k.loop-n.n (hermite_run a.given.now a.w)
-          k.loop-n.invariant.1 (sym (tested k) ∙ c.if-triangle_beyond.false),
-    )
+    let a = k.args in
+    any_more net_limit k.loop-n.n (hermite_run a.given.now a.w)
+    k.loop-n.invariant (sym (tested k) ∙ c.if-triangle_beyond.false)
 
 pub returns : goal.returns
 returns c =
     let a = c.args in
     let all : c.loop-n.n ≡ a.w * a.h = omega arith in
     sym (hermite_tested a.given.now a.w a.h
-    ∙ ap (λ (n : ℕ). any_beyond (runs n (hermite_run a.given.now a.w))) (sym all) ∙ c.loop-n.invariant.1)
+    ∙ ap (λ (n : ℕ). any_beyond (runs n (hermite_run a.given.now a.w))) (sym all) ∙ c.loop-n.invariant)

@@ -1,13 +1,12 @@
 -- `hermite::nets::store_hermite` meets its contract.
 use mathlib.Core.List.{List}
 use mathlib.Core.Path.{◌≡◌, refl, sym, ap, ◌∙◌}
-use Prim.Native.Nat.{ℕ, ◌+◌, ◌-◌, ◌*◌, ◌≤◌}
+use Prim.Native.Nat.{ℕ, ◌+◌, ◌*◌, ◌≤◌}
 use native.Mathlib.Nat.{mul_comm}
 use native.Mathlib.Omega.{arith}
 use lib.IntN.{ℤ}
 use lib.ListN.{length}
 use lib.Seq.{sets}
-use borrow.Author.Rules.{rules}
 use Rattle.exact.specs.Filling.{over, runs}
 use Rattle.exact.proofs.FillingLaws.{over_none, over_more}
 use Rattle.net.specs.Net.{stride, vertex_of}
@@ -19,7 +18,7 @@ use Rattle.hermite.proofs.HermiteLaws.{hermite_run, hermite_by_number, triangle_
 use Rattle.hermite.proofs.nets.store_hermite.Goals as goal
 
 pub loop-n-init : goal.loop-n-init
-loop-n-init c = (omega arith, refl, over_none _ _)
+loop-n-init c = over_none _ _
 
 pub narrow_triangle-c-requires : goal.narrow_triangle-c-requires
 narrow_triangle-c-requires c =
@@ -37,21 +36,18 @@ loop-n-preserved c =
     let a = s.args in
     let n = k.loop-n.n in
     let F = hermite_fields a.given.now a.w in
-    let fits : (n + 1) * stride ≤ length a.out.now = omega (arith, s.requires.1, k.loop-n-test.true) in (
-      search rules,
-      search rules,
-      c.store_triangle.ensures
-          ∙ stored_triangle F (vertex_of a.w n) k.loop-n.out (stride * n)
-          (e.narrow_triangle-c.ensures ∙ ap nine_of e.controls_at.ensures
-          ∙ triangle_there a.given.now a.w a.h n k.loop-n-test.true)
-          ∙ (λ t. sets (k.loop-n.invariant.2 t) (mul_comm stride n t) (hermite_run a.given.now a.w n))
-          ∙ over_more a.out.now n stride (hermite_run a.given.now a.w) (λ m h. refl) fits,
-    )
+    let fits : (n + 1) * stride ≤ length a.out.now = omega (arith, s.requires.1, k.loop-n-test.true) in
+    c.store_triangle.ensures
+    ∙ stored_triangle F (vertex_of a.w n) k.loop-n.out (stride * n)
+    (e.narrow_triangle-c.ensures ∙ ap nine_of e.controls_at.ensures
+    ∙ triangle_there a.given.now a.w a.h n k.loop-n-test.true)
+    ∙ (λ t. sets (k.loop-n.invariant t) (mul_comm stride n t) (hermite_run a.given.now a.w n))
+    ∙ over_more a.out.now n stride (hermite_run a.given.now a.w) (λ m h. refl) fits
 
 pub returns : goal.returns
 returns c =
     let a = c.args in
     let all : c.loop-n.n ≡ a.w * a.h = omega arith in
-    c.loop-n.invariant.2
+    c.loop-n.invariant
     ∙ ap (λ (n : ℕ). over (runs n (hermite_run a.given.now a.w)) a.out.now) all
     ∙ ap (λ (l : List ℤ). over l a.out.now) (sym (hermite_by_number a.given.now a.w a.h))

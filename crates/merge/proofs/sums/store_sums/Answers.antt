@@ -1,10 +1,8 @@
 -- `merge::sums::store_sums` meets its contract.
 use mathlib.Core.Path.{refl, ◌∙◌}
-use Prim.Native.Nat.{◌+◌, ◌-◌, ◌*◌}
+use Prim.Native.Nat.{◌+◌, ◌*◌}
 use native.Mathlib.Nat.{mul_comm}
-use native.Mathlib.Omega.{arith}
 use lib.Seq.{sets}
-use borrow.Author.Rules.{rules}
 use Rattle.exact.proofs.FillingLaws.{runs_none, runs_more}
 use Rattle.net.specs.Net.{vertex_at, stride}
 use Rattle.steps.specs.RefinedNet.{vertex_run}
@@ -14,20 +12,15 @@ use Rattle.merge.proofs.sums.store_sums.Invariants.{sums_at}
 use Rattle.merge.proofs.sums.store_sums.Goals as goal
 
 pub loop-i-init : goal.loop-i-init
-loop-i-init c = (omega arith, refl, runs_none _ _ _)
+loop-i-init c = runs_none _ _ _
 
 pub loop-i-preserved : goal.loop-i-preserved
 loop-i-preserved c =
-    let sum = c in
-    let k = c in
-    let a = k.args in
-    let i = k.loop-i.i in
+    let a = c.args in
+    let i = c.loop-i.i in
     let at = stride * (a.j * a.w) in
-    let F = row_sums a.row.now a.details.now a.w in (
-      search rules,
-      search rules,
-      c.store_triangle.ensures
-          ∙ stored_triangle F (vertex_at i a.j) k.loop-i.out (at + stride * i) sum.vertex_sums-c.ensures
-          ∙ (λ t. sets (k.loop-i.invariant.2 t) (at + mul_comm stride i t) (vertex_run F (vertex_at i a.j)))
-          ∙ runs_more a.out.now at i stride (sums_at a.row.now a.details.now a.w a.j) (λ m h. refl),
-    )
+    let F = row_sums a.row.now a.details.now a.w in
+    c.store_triangle.ensures
+    ∙ stored_triangle F (vertex_at i a.j) c.loop-i.out (at + stride * i) c.vertex_sums-c.ensures
+    ∙ (λ t. sets (c.loop-i.invariant t) (at + mul_comm stride i t) (vertex_run F (vertex_at i a.j)))
+    ∙ runs_more a.out.now at i stride (sums_at a.row.now a.details.now a.w a.j) (λ m h. refl)

@@ -1,9 +1,8 @@
 -- `merge::sums::store_sums` meets its contract.
 use mathlib.Core.Path.{◌≡◌}
 use mathlib.Core.List.{List}
-use Prim.Native.Nat.{ℕ, ◌-◌, ◌≤◌}
+use Prim.Native.Nat.{ℕ}
 use lib.IntN.{ℤ}
-use lib.ListN.{length}
 use lib.Seq.{sets}
 use Rattle.exact.specs.Filling.{runs}
 use Rattle.net.specs.Net.{vertex_at}
@@ -17,8 +16,4 @@ sums_at row details w j i = vertex_run (row_sums row details w) (vertex_at i j)
 
 abbrev pub invariant-loop-i : goal.invariant-loop-i
 invariant-loop-i l =
-    (l.i ≤ l.w) × (length l.out ≡ length l.initial.out) × (l.out ≡ sets l.initial.out l.at (runs l.i (sums_at l.row l.details l.w l.j)))
-
-abbrev pub decreases-loop-i : goal.decreases-loop-i
-decreases-loop-i l =
-    l.w - l.i
+    l.out ≡ sets l.initial.out l.at (runs l.i (sums_at l.row l.details l.w l.j))

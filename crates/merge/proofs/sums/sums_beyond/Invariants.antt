@@ -1,7 +1,7 @@
 -- `merge::sums::sums_beyond` meets its contract: what was found is whether a sum before column i is beyond the range.
 use mathlib.Core.Path.{◌≡◌}
 use mathlib.Core.List.{List}
-use Prim.Native.Nat.{ℕ, ◌-◌, ◌≤◌}
+use Prim.Native.Nat.{ℕ}
 use lib.IntN.{ℤ}
 use Rattle.exact.specs.Filling.{runs}
 use Rattle.net.specs.Net.{vertex_at}
@@ -16,8 +16,4 @@ sums_at row details w j i = vertex_run (row_sums row details w) (vertex_at i j)
 
 abbrev pub invariant-loop-i : goal.invariant-loop-i
 invariant-loop-i l =
-    (l.i ≤ l.w) × (l.bad ≡ any_beyond (runs l.i (sums_at l.row l.details l.w l.j)))
-
-abbrev pub decreases-loop-i : goal.decreases-loop-i
-decreases-loop-i l =
-    l.w - l.i
+    l.bad ≡ any_beyond (runs l.i (sums_at l.row l.details l.w l.j))

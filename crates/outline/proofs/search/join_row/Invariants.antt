@@ -1,12 +1,6 @@
 -- `outline::search::join_row` meets its contract: the loop has joined the cells of the row before i.
-use Prim.Native.Nat.{◌+◌, ◌-◌, ◌≤◌}
 use Rattle.outline.specs.Search.{Joined, InRowBefore}
 use Rattle.outline.proofs.search.join_row.Given as goal
 
 abbrev pub invariant-loop-i : goal.invariant-loop-i
-invariant-loop-i l =
-    (l.i + 1 ≤ l.w) × Joined (InRowBefore l.i l.j) l.outline l.w l.h l.initial.links l.links
-
-abbrev pub decreases-loop-i : goal.decreases-loop-i
-decreases-loop-i l =
-    l.w - l.i
+invariant-loop-i l = Joined (InRowBefore l.i l.j) l.outline l.w l.h l.initial.links l.links

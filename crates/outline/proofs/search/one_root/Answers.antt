@@ -1,7 +1,7 @@
 -- `outline::search::one_root` meets its contract: the loop has counted the roots before t.
 use mathlib.Core.Path.{◌≡◌, refl, sym}
 use mathlib.Core.Bool.{Bool, true, false}
-use Prim.Native.Nat.{◌-◌, ◌≤◌}
+use Prim.Native.Nat.{◌≤◌}
 use native.Mathlib.Omega.{arith}
 use mir.Val.{bool_byte}
 use Rattle.graphs.specs.Links.{bit}
@@ -15,14 +15,12 @@ bit_small true = (refl, omega arith)
 bit_small false = (refl, omega arith)
 
 pub loop-t-init : goal.loop-t-init
-loop-t-init c = (omega arith, sym (count_start (is_root c.args.outline.now c.args.links.now)), omega arith)
+loop-t-init c = (sym (count_start (is_root c.args.outline.now c.args.links.now)), omega arith)
 
 pub loop-t-preserved : goal.loop-t-preserved
 loop-t-preserved c =
-    let at = c in
-    let f = is_root at.args.outline.now at.args.links.now in
-    let t = at.loop-t.t in (
-      omega arith,
-      omega (arith, at.loop-t.invariant.1, count_more t f, bit_small (f t)),
-      omega (arith, at.loop-t.invariant.2, bit_small (f t)),
+    let f = is_root c.args.outline.now c.args.links.now in
+    let at = c.loop-t in (
+      omega (arith, at.invariant.0, count_more at.t f, bit_small (f at.t)),
+      omega (arith, at.invariant.1, bit_small (f at.t)),
     )

@@ -1,14 +1,8 @@
 -- `outline::search::one_root` meets its contract: the loop has counted the roots before t.
 use mathlib.Core.Path.{◌≡◌}
-use Prim.Native.Nat.{◌-◌, ◌≤◌}
-use lib.ListN.{length}
+use Prim.Native.Nat.{◌≤◌}
 use Rattle.outline.specs.Search.{roots}
 use Rattle.outline.proofs.search.one_root.Given as goal
 
 abbrev pub invariant-loop-t : goal.invariant-loop-t
-invariant-loop-t l =
-    (l.t ≤ length l.links) × (l.count ≡ roots l.outline l.links l.t) × (l.count ≤ l.t)
-
-abbrev pub decreases-loop-t : goal.decreases-loop-t
-decreases-loop-t l =
-    length l.links - l.t
+invariant-loop-t l = (l.count ≡ roots l.outline l.links l.t) × (l.count ≤ l.t)

@@ -23,13 +23,13 @@ module _ (c : After-whole_points_refusal-refusal) where
   n = c.args.n
 
   abbrev whole : ℕ
-  whole = c.lesser-whole.result
+  whole = c.min-whole.result
 
   abbrev faults : ℕ → List Fault
   faults i = point_faults (from_point file i)
 
   fewer : whole ≡ min n ((length file - head_size) / point_size)
-  fewer = c.lesser-whole.ensures
+  fewer = c.min-whole.ensures
 
 -- and the one after them, which is cut
 module _ (c : After-point_refusal) where

@@ -4,7 +4,6 @@ use mathlib.Core.List.{List}
 use Prim.Native.Nat.{ℕ, ◌+◌, ◌-◌, ◌*◌, ◌≤◌, ◌<◌}
 use native.Mathlib.Omega.{arith}
 use lib.ListN.{length, take, drop, length-drop}
-use borrow.Author.Rules.{rules}
 use Rattle.exact.specs.Filling.{runs}
 use Rattle.exact.proofs.FillingLaws.{runs_suc}
 use Rattle.net.specs.Refusals.{Fault, first_fault}
@@ -41,26 +40,24 @@ module _ (c : After-point_refusal-refusal) where
 
 pub loop-i-init : goal.loop-i-init
 unfolding runs
-loop-i-init c = (omega arith, tt)
+loop-i-init c = tt
 
 pub returns-then-refusal-ne0 : goal.returns-then-refusal-ne0
 returns-then-refusal-ne0 c =
     let p = (goal.at.returns-then-refusal-ne0 c).After-point_refusal-refusal in
     fault_in_runs (count p) (faults p) (at p) p.loop-i-test.true
-    p.loop-i.invariant.1 (refusal p) c.if-refusal-ne0.true
+    p.loop-i.invariant (refusal p) c.if-refusal-ne0.true
 
 pub loop-i-preserved : goal.loop-i-preserved
 loop-i-preserved c =
     let p = (goal.at.loop-i-preserved c).After-point_refusal-refusal in
-    let k = passes (faults p (at p)) (point_numbered (from_point (file p) (at p))) (refusal p) c.if-refusal-ne0.false in (
-      search rules,
-      subst Clear (sym (runs_suc (at p) (faults p)))
-          (clear_append (runs (at p) (faults p)) (faults p (at p)) p.loop-i.invariant.1 k),
-    )
+    let k = passes (faults p (at p)) (point_numbered (from_point (file p) (at p))) (refusal p) c.if-refusal-ne0.false in
+    subst Clear (sym (runs_suc (at p) (faults p)))
+    (clear_append (runs (at p) (faults p)) (faults p (at p)) p.loop-i.invariant k)
 
 pub returns : goal.returns
 returns c =
     let i = c.loop-i.i in
     let all : i ≡ c.args.n = omega arith in
     let faults : ℕ → List Fault = λ j. point_faults (from_point c.args.file.now j) in
-    sym (clear_none (runs i faults) c.loop-i.invariant.1) ∙ ap (λ (n : ℕ). first_fault (runs n faults)) all
+    sym (clear_none (runs i faults) c.loop-i.invariant) ∙ ap (λ (n : ℕ). first_fault (runs n faults)) all

@@ -1,9 +1,8 @@
 -- `split::detail::store_differences` meets its contract.
 use mathlib.Core.Path.{◌≡◌}
 use mathlib.Core.List.{List}
-use Prim.Native.Nat.{ℕ, ◌-◌, ◌≤◌}
+use Prim.Native.Nat.{ℕ}
 use lib.IntN.{ℤ}
-use lib.ListN.{length}
 use Rattle.exact.specs.Filling.{over, runs}
 use Rattle.net.specs.Net.{field, grid_row}
 use Rattle.details.specs.Details.{detail_run}
@@ -17,9 +16,4 @@ details_on net coarse w = grid_row (detail_run (λ x. detail_of (field net w x) 
 
 abbrev pub invariant-loop-j : goal.invariant-loop-j
 invariant-loop-j l =
-    (l.j ≤ l.h) × (length l.details ≡ length l.initial.details) × (length l.row ≡ 9225)
-    × (l.details ≡ over (runs l.j (details_on l.net l.coarse l.w)) l.initial.details)
-
-abbrev pub decreases-loop-j : goal.decreases-loop-j
-decreases-loop-j l =
-    l.h - l.j
+    l.details ≡ over (runs l.j (details_on l.net l.coarse l.w)) l.initial.details

@@ -1,10 +1,8 @@
 -- `split::detail::store_row_details` meets its contract.
 use mathlib.Core.Path.{refl, ◌∙◌}
-use Prim.Native.Nat.{◌+◌, ◌-◌, ◌*◌}
+use Prim.Native.Nat.{◌+◌, ◌*◌}
 use native.Mathlib.Nat.{mul_comm}
-use native.Mathlib.Omega.{arith}
 use lib.Seq.{sets}
-use borrow.Author.Rules.{rules}
 use Rattle.exact.proofs.FillingLaws.{runs_none, runs_more}
 use Rattle.net.specs.Net.{vertex_at}
 use Rattle.details.specs.Details.{detail_stride, detail_run}
@@ -14,20 +12,15 @@ use Rattle.split.proofs.detail.store_row_details.Invariants.{details_at}
 use Rattle.split.proofs.detail.store_row_details.Goals as goal
 
 pub loop-i-init : goal.loop-i-init
-loop-i-init c = (omega arith, refl, runs_none _ _ _)
+loop-i-init c = runs_none _ _ _
 
 pub loop-i-preserved : goal.loop-i-preserved
 loop-i-preserved c =
-    let made = c in
-    let k = c in
-    let a = k.args in
-    let i = k.loop-i.i in
+    let a = c.args in
+    let i = c.loop-i.i in
     let at = detail_stride * (a.j * a.w) in
-    let D = row_differences a.net.now a.row.now a.w in (
-      search rules,
-      search rules,
-      c.store_details.ensures
-          ∙ stored_details_lem D (vertex_at i a.j) k.loop-i.details (at + detail_stride * i) made.vertex_differences-d.ensures
-          ∙ (λ t. sets (k.loop-i.invariant.2 t) (at + mul_comm detail_stride i t) (detail_run D (vertex_at i a.j)))
-          ∙ runs_more a.details.now at i detail_stride (details_at a.net.now a.row.now a.w a.j) (λ m h. refl),
-    )
+    let D = row_differences a.net.now a.row.now a.w in
+    c.store_details.ensures
+    ∙ stored_details_lem D (vertex_at i a.j) c.loop-i.details (at + detail_stride * i) c.vertex_differences-d.ensures
+    ∙ (λ t. sets (c.loop-i.invariant t) (at + mul_comm detail_stride i t) (detail_run D (vertex_at i a.j)))
+    ∙ runs_more a.details.now at i detail_stride (details_at a.net.now a.row.now a.w a.j) (λ m h. refl)

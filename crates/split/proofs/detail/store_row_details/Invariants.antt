@@ -1,9 +1,8 @@
 -- `split::detail::store_row_details` meets its contract.
 use mathlib.Core.Path.{◌≡◌}
 use mathlib.Core.List.{List}
-use Prim.Native.Nat.{ℕ, ◌-◌, ◌≤◌}
+use Prim.Native.Nat.{ℕ}
 use lib.IntN.{ℤ}
-use lib.ListN.{length}
 use lib.Seq.{sets}
 use Rattle.exact.specs.Filling.{runs}
 use Rattle.net.specs.Net.{vertex_at}
@@ -17,8 +16,4 @@ details_at net row w j i = detail_run (row_differences net row w) (vertex_at i j
 
 abbrev pub invariant-loop-i : goal.invariant-loop-i
 invariant-loop-i l =
-    (l.i ≤ l.w) × (length l.details ≡ length l.initial.details) × (l.details ≡ sets l.initial.details l.at (runs l.i (details_at l.net l.row l.w l.j)))
-
-abbrev pub decreases-loop-i : goal.decreases-loop-i
-decreases-loop-i l =
-    l.w - l.i
+    l.details ≡ sets l.initial.details l.at (runs l.i (details_at l.net l.row l.w l.j))

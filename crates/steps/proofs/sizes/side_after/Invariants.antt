@@ -1,13 +1,7 @@
--- `steps::depth::side_after` meets its contract.
+-- `steps::sizes::side_after` meets its contract.
 use mathlib.Core.Path.{◌≡◌}
-use Prim.Native.Nat.{◌-◌, ◌≤◌}
 use Rattle.subdivision.specs.Refinement.{side_after}
 use Rattle.steps.proofs.sizes.side_after.Given as goal
 
-abbrev pub invariant-loop-i : goal.invariant-loop-i
-invariant-loop-i l =
-    (l.i ≤ l.k) × (l.side ≡ side_after l.i l.n)
-
-abbrev pub decreases-loop-i : goal.decreases-loop-i
-decreases-loop-i l =
-    l.k - l.i
+abbrev pub invariant-loop : goal.invariant-loop
+invariant-loop l = l.side ≡ side_after l.counter l.n

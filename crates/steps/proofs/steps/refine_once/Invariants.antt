@@ -1,7 +1,5 @@
 -- `steps::steps::refine_once` meets its contract.
 use mathlib.Core.Path.{◌≡◌}
-use Prim.Native.Nat.{◌-◌, ◌≤◌}
-use lib.ListN.{length}
 use Rattle.exact.specs.Filling.{over, runs}
 use Rattle.subdivision.specs.Refinement.{refined_side}
 use Rattle.steps.specs.RefinedNet.{refined_fields, row_run}
@@ -9,8 +7,4 @@ use Rattle.steps.proofs.steps.refine_once.Given as goal
 
 abbrev pub invariant-loop-j : goal.invariant-loop-j
 invariant-loop-j l =
-    (l.j ≤ l.high) × (length l.out ≡ length l.initial.out) × (l.out ≡ over (runs l.j (row_run (refined_fields l.net l.w) (refined_side l.w))) l.initial.out)
-
-abbrev pub decreases-loop-j : goal.decreases-loop-j
-decreases-loop-j l =
-    l.high - l.j
+    l.out ≡ over (runs l.j (row_run (refined_fields l.net l.w) (refined_side l.w))) l.initial.out

@@ -1,7 +1,5 @@
 -- `steps::steps::refine_row` meets its contract.
 use mathlib.Core.Path.{◌≡◌}
-use Prim.Native.Nat.{◌-◌, ◌≤◌}
-use lib.ListN.{length}
 use lib.Seq.{sets}
 use Rattle.exact.specs.Filling.{runs}
 use Rattle.steps.specs.RefinedNet.{refined_fields}
@@ -10,8 +8,4 @@ use Rattle.steps.proofs.steps.refine_row.Given as goal
 
 abbrev pub invariant-loop-m : goal.invariant-loop-m
 invariant-loop-m l =
-    (l.m ≤ l.w) × (length l.out ≡ length l.initial.out) × (l.out ≡ sets l.initial.out l.at (runs l.m (pair_run (refined_fields l.net l.w) l.w l.j)))
-
-abbrev pub decreases-loop-m : goal.decreases-loop-m
-decreases-loop-m l =
-    l.w - l.m
+    l.out ≡ sets l.initial.out l.at (runs l.m (pair_run (refined_fields l.net l.w) l.w l.j))

@@ -2,9 +2,8 @@
 use mathlib.Core.Bool.{Bool}
 use mathlib.Core.Path.{◌≡◌}
 use mathlib.Core.List.{List, [], ◌∷◌}
-use Prim.Native.Nat.{ℕ, ◌-◌, ◌≤◌}
+use Prim.Native.Nat.{ℕ}
 use lib.IntN.{ℤ}
-use lib.ListN.{length}
 use Rattle.exact.specs.Filling.{over, runs}
 use Rattle.surface.specs.Evaluation.{evaluated}
 use Rattle.surface.proofs.points.evaluate.Given as goal
@@ -14,9 +13,4 @@ abbrev pub single : Bool → ℕ → ℕ → ℕ → List (List (List ℤ)) → 
 single ahead a b g c x = evaluated ahead a b g c x ∷ []
 
 abbrev pub invariant-loop-i : goal.invariant-loop-i
-invariant-loop-i l =
-    (l.i ≤ 3) × (length l.point ≡ 3) × (l.point ≡ over (runs l.i (single l.ahead l.a l.b l.g l.c)) l.initial.point)
-
-abbrev pub decreases-loop-i : goal.decreases-loop-i
-decreases-loop-i l =
-    3 - l.i
+invariant-loop-i l = l.value-items ≡ over (runs l.i (single l.ahead l.a l.b l.g l.c)) l.initial.value-items

@@ -1,7 +1,6 @@
 -- `writer::writing::store_points` meets its contract: each iteration stores one control point more.
 use mathlib.Core.Path.{◌≡◌}
-use Prim.Native.Nat.{◌-◌, ◌*◌, ◌≤◌}
-use lib.ListN.{length}
+use Prim.Native.Nat.{◌*◌}
 use lib.Seq.{sets}
 use Rattle.exact.specs.Filling.{runs}
 use Rattle.net.specs.Net.{point_stride}
@@ -10,8 +9,4 @@ use Rattle.writer.proofs.writing.store_points.Given as goal
 
 abbrev pub invariant-loop-i : goal.invariant-loop-i
 invariant-loop-i l =
-    (l.i ≤ l.n) × (length l.out ≡ length l.initial.out) × (l.out ≡ sets l.initial.out head_size (runs l.i (λ j. point_bytes l.net (point_stride * j))))
-
-abbrev pub decreases-loop-i : goal.decreases-loop-i
-decreases-loop-i l =
-    l.n - l.i
+    l.out ≡ sets l.initial.out head_size (runs l.i (λ j. point_bytes l.net (point_stride * j)))
