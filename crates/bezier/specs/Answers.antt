@@ -1,17 +1,12 @@
--- Document 01's number of each case of the answer, and what a Bézier net answers and leaves in lent memory.
-use Rattle.std.specs.Prelude.{◌≡◌, refl, Bool, true, false, List, [], ◌∷◌, ◌++◌, ℕ, ℤ, pos, length, replicate}
+-- What a Bézier net answers and leaves in lent memory.
+use Rattle.std.specs.Prelude.{◌≡◌, refl, Bool, true, false, List, [], ◌∷◌, ◌++◌, ℕ, ℤ, pos, length, replicate, Ok, Err}
 use Rattle.exact.specs.Filling.{over, runs}
 use Rattle.net.specs.Net.{triangle_at, numbers, control_point, control_triangle}
 use Rattle.net.specs.Refusals.{accepted, output_after}
+use Rattle.net.specs.Results.{call_outcome}
+use Rattle.net.specs.declared.refusals.Refusal.TheVariants as refusal
 use Rattle.bezier.specs.BezierNet.{bezier_points, bezier_numbers}
 use Rattle.bezier.specs.Refusals.{bezier_refusal}
-use Rattle.bezier.specs.declared.answers.BezierAnswer.{BezierAnswer}
-use Rattle.bezier.specs.declared.answers.BezierAnswer.TheVariants as answer
-
--- document 01's number of an answer, 0 where nothing is refused, and whether the call was carried out
-abbrev pub bezier_outcome : BezierAnswer → ℕ × Bool
-bezier_outcome answer.Done = (0, true)
-bezier_outcome (answer.Refused n) = (n, false)
 
 -- what a Bézier net answers: the first fault, and that it is carried out exactly where there is none
 abbrev pub bezier_answer : List ℤ → ℕ → ℕ → ℕ → ℕ → Bool → ℕ → ℕ × Bool
@@ -23,8 +18,10 @@ unfoldable pub bezier_output : List ℤ → ℕ → ℕ → ℕ → ℕ → Bool
 bezier_output net w h i j down out =
     output_after (bezier_refusal net w h i j down (length out)) (bezier_numbers net w (triangle_at i j down)) out
 
--- worked cases: outcomes of answers; of a net of 5s, accepted with room for one number more, and refused
-outcomes : (bezier_outcome answer.Done ≡ (0, true)) × (bezier_outcome (answer.Refused 6) ≡ (6, false))
+-- worked cases: outcomes of results; of a net of 5s, accepted with room for one number more, and refused
+outcomes :
+    (call_outcome {A = Unit {0}} (Ok tt) ≡ (0, true))
+    × (call_outcome {A = Unit {0}} (Err refusal.Place) ≡ (6, false))
 outcomes = (refl, refl)
 
 abbrev fives : List ℤ

@@ -3,13 +3,13 @@ ghost use Rattle.std.specs.Prelude.{◌≡◌, false, map, ℕ, ◌≤◌, ◌<�
 ghost use Rattle.exact.specs.WeightedSum.{weighted_sum, Within};
 ghost use Rattle.exact.specs.Filling.{over, runs};
 ghost use Rattle.net.specs.Refusals.{bad_size};
+ghost use Rattle.net.specs.Results.{refused, call_outcome};
 ghost use Rattle.triangles.specs.Corners.{values_in};
 ghost use Rattle.bezier.specs.Refusals.{no_triangle, bezier_refusal};
-ghost use Rattle.bezier.specs.Answers.{bezier_outcome, bezier_answer, bezier_output};
+ghost use Rattle.bezier.specs.Answers.{bezier_answer, bezier_output};
 ghost use Rattle.bezier.specs.Weights.{bezier_rows, points_of, terms_at, SmallTerms, joined_terms, placed, three_at};
 
-use crate::answers::BezierAnswer;
-use net::{bad_size, short_net};
+use net::{Refusal, bad_size, short_net};
 use triangles::{coordinate_values, load_triangle, reorder_controls, triangle_beyond};
 
 // What the points share at a corner, in one coordinate: multiples of document 01's points there. They are formed once,
@@ -130,7 +130,7 @@ pub fn no_triangle(w: usize, h: usize, i: usize, j: usize) -> bool
     if w - 1 <= i { true } else { h - 1 <= j }
 }
 
-// The number of the first fault, 1, 6, 2, 5 or 3, or 0. `room` is the length of the output.
+// The first fault, 1, 6, 2, 5 or 3. `room` is the length of the output.
 fn bezier_refusal(
     net: &[i32],
     w: usize,
@@ -139,25 +139,25 @@ fn bezier_refusal(
     j: usize,
     down: bool,
     room: usize,
-) -> u32
-    ensures { result ≡ bezier_refusal net.now w h i j down room }
+) -> Result<(), Refusal>
+    ensures { refused result ≡ bezier_refusal net.now w h i j down room }
 {
     if bad_size(w, h) {
-        return 1;
+        return Err(Refusal::Size);
     }
     if no_triangle(w, h, i, j) {
-        return 6;
+        return Err(Refusal::Place);
     }
     if short_net(net, w, h) {
-        return 2;
+        return Err(Refusal::Short);
     }
     if room < 57 {
-        return 5;
+        return Err(Refusal::Room);
     }
     if triangle_beyond(net, w, i, j, down) {
-        return 3;
+        return Err(Refusal::Range);
     }
-    0
+    Ok(())
 }
 
 // The 19 points of the up or the down triangle of cell (i, j) times 36, in 57 numbers over the front of `out`.
@@ -170,15 +170,12 @@ pub fn bezier_net(
     j: usize,
     down: bool,
     out: &mut [i32],
-) -> BezierAnswer
-    ensures result_value { bezier_outcome result ≡ bezier_answer net.now w h i j down (length out.old) }
+) -> Result<(), Refusal>
+    ensures result_value { call_outcome result ≡ bezier_answer net.now w h i j down (length out.old) }
     ensures out_after { out.new ≡ bezier_output net.now w h i j down out.old }
 {
-    let refusal = bezier_refusal(net, w, h, i, j, down, out.len());
-    if refusal != 0 {
-        return BezierAnswer::Refused(refusal);
-    }
+    bezier_refusal(net, w, h, i, j, down, out.len())?;
     let c = reorder_controls(load_triangle(net, w, i, j, down), down);
     write_points(c, out);
-    BezierAnswer::Done
+    Ok(())
 }

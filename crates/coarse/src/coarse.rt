@@ -9,7 +9,7 @@ ghost use Rattle.net.specs.Refusals.{net_limit, any_beyond, PointWithin, Control
 ghost use Rattle.steps.specs.RefinedNet.{row_run};
 ghost use Rattle.coarse.specs.Coarse.{coarse_side, coarse_fields, coarse_net, coarse_controls, coarse_beyond, coarse_point, coarse_triangle};
 
-use exact::{round_even_narrow, weighted_sum3};
+use exact::{round_even_narrow, weighted_sum};
 use net::{STRIDE, controls_beyond, load};
 use steps::store_triangle;
 
@@ -19,7 +19,7 @@ fn coarse_number(c: i32, a: i32, b: i32) -> i32
     requires { (nat_abs c ≤ net_limit) × (nat_abs a ≤ net_limit) × (nat_abs b ≤ net_limit) }
     ensures { result ≡ rounded (pos 5 *ℤ c -ℤ (a +ℤ b)) 3 }
 {
-    round_even_narrow(weighted_sum3([10, -2, -2], [c, a, b]), 3, 50331648)
+    round_even_narrow(weighted_sum([10, -2, -2], [c, a, b]), 3, 50331648)
 }
 
 // A coarse control point from its own control point and the other two.

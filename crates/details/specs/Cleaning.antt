@@ -1,13 +1,13 @@
 -- Document 01, "Split, merge, clean": what cleaning answers and makes of lent details.
-use Rattle.std.specs.Prelude.{◌≡◌, refl, Bool, true, false, cond, List, [], ◌∷◌, ◌++◌, map, ◌⊎◌, ℕ, ◌<◌, ltb, ℤ, pos, negsuc, nat_abs, length, take, replicate}
+use Rattle.std.specs.Prelude.{◌≡◌, refl, Bool, true, false, cond, List, [], ◌∷◌, ◌++◌, map, ◌⊎◌, ℕ, ◌<◌, ltb, ℤ, pos, negsuc, nat_abs, length, take, replicate, Ok, Err}
 use Rattle.std.proofs.Common.{ap, ⊎_elim, arith}
 use Rattle.exact.specs.Filling.{over}
 use Rattle.net.specs.Net.{number}
 use Rattle.net.specs.Refusals.{output_after, answer_by}
+use Rattle.net.specs.Results.{call_outcome}
+use Rattle.net.specs.declared.refusals.Refusal.TheVariants as refusal
 use Rattle.details.specs.Details.{detail_numbers}
 use Rattle.details.specs.Refusals.{details_beyond, clean_refusal}
-use Rattle.details.specs.declared.answers.CleanAnswer.{CleanAnswer}
-use Rattle.details.specs.declared.answers.CleanAnswer.TheVariants as answer
 
 -- 'sets each detail of size below t to zero'
 abbrev pub cleaned : ℕ → ℤ → ℤ
@@ -24,11 +24,6 @@ pub record Cleaned (t : ℕ) (before after : List ℤ) : Type 0 where
   pub each : (n : ℕ) →
       (number after n ≡ number before n) ⊎ ((number after n ≡ pos 0) × (nat_abs (number before n) < t))
 
--- document 01's number of an answer, 0 where nothing is refused, and whether the call was carried out
-abbrev pub clean_outcome : CleanAnswer → ℕ × Bool
-clean_outcome answer.Done = (0, true)
-clean_outcome (answer.Refused n) = (n, false)
-
 -- what cleaning answers, and what it leaves in the lent details
 abbrev pub clean_answer : List ℤ → ℕ → ℕ → ℕ → ℕ × Bool
 clean_answer details w h t = answer_by (clean_refusal details w h t)
@@ -38,7 +33,9 @@ clean_output details w h t = output_after (clean_refusal details w h t) (cleaned
 
 -- ---- worked cases
 
-outcomes : (clean_outcome answer.Done ≡ (0, true)) × (clean_outcome (answer.Refused 12) ≡ (12, false))
+outcomes :
+    (call_outcome {A = Unit {0}} (Ok tt) ≡ (0, true))
+    × (call_outcome {A = Unit {0}} (Err refusal.Threshold) ≡ (12, false))
 outcomes = (refl, refl)
 
 -- a size of t stays, one below it does not; nothing is below 0; the end of the range stays at the greatest threshold

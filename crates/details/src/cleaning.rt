@@ -1,14 +1,13 @@
 // Cleaning: nothing is written before it is known that nothing is refused.
-ghost use Rattle.std.specs.Prelude.{◌≡◌, map, ◌≤◌, length, take};
-ghost use Rattle.exact.specs.Filling.{over};
+ghost use Rattle.std.specs.Prelude.{◌≡◌, map, ◌≤◌};
+ghost use Rattle.net.specs.Results.{refused, call_outcome};
 ghost use Rattle.details.specs.Refusals.{detail_limit, too_great, clean_refusal};
-ghost use Rattle.details.specs.Cleaning.{cleaned, clean_outcome, clean_answer, clean_output};
+ghost use Rattle.details.specs.Cleaning.{cleaned, clean_answer, clean_output};
 
-use crate::answers::CleanAnswer;
 use crate::ranges::details_beyond;
 use crate::records::DETAIL_STRIDE;
 use crate::sizes::{even_size, short_details};
-use net::bad_size;
+use net::{Refusal, bad_size};
 
 // Whether a threshold is above the range of details.
 pub fn too_great(t: u32) -> bool
@@ -30,50 +29,46 @@ fn cleaned_number(z: i32, t: u32) -> i32
     }
 }
 
-// The first n details, cleaned.
-fn clean_first(details: &mut [i32], n: usize, t: u32)
-    requires { (n ≤ length details.old) × (t ≤ detail_limit) }
-    ensures { details.new
-        ≡ over (map (cleaned t) (take n details.old)) details.old }
+// All of the details, cleaned.
+fn clean_all(details: &mut [i32], t: u32)
+    requires { t ≤ detail_limit }
+    ensures { details.new ≡ map (cleaned t) details.old }
 {
-    for z in &mut details[..n] {
+    for z in details {
         *z = cleaned_number(*z, t);
     }
 }
 
-// The number of the first fault, 1, 10, 12, 2 or 3, or 0 where there is none.
-fn clean_refusal(details: &[i32], w: usize, h: usize, t: u32) -> u32
-    ensures { result ≡ clean_refusal details.now w h t }
+// The first fault, 1, 10, 12, 2 or 3.
+fn clean_refusal(details: &[i32], w: usize, h: usize, t: u32) -> Result<(), Refusal>
+    ensures { refused result ≡ clean_refusal details.now w h t }
 {
     if bad_size(w, h) {
-        return 1;
+        return Err(Refusal::Size);
     }
     if even_size(w, h) {
-        return 10;
+        return Err(Refusal::Even);
     }
     if too_great(t) {
-        return 12;
+        return Err(Refusal::Threshold);
     }
     if short_details(details, w, h) {
-        return 2;
+        return Err(Refusal::Short);
     }
     if details_beyond(details, w, h) {
-        return 3;
+        return Err(Refusal::Range);
     }
-    0
+    Ok(())
 }
 
 // Each detail of size below t becomes 0, in place; or the first of 1, 10, 12, 2, 3.
 // Mirror images: `MirroredCleaning` in `crates/mirror/specs/Promises.antt`.
-pub fn clean(details: &mut [i32], w: usize, h: usize, t: u32) -> CleanAnswer
-    ensures result_value { clean_outcome result ≡ clean_answer details.old w h t }
+pub fn clean(details: &mut [i32], w: usize, h: usize, t: u32) -> Result<(), Refusal>
+    ensures result_value { call_outcome result ≡ clean_answer details.old w h t }
     ensures details_after { details.new ≡ clean_output details.old w h t }
 {
-    let refusal = clean_refusal(details, w, h, t);
-    if refusal == 0 {
-        clean_first(details, DETAIL_STRIDE * (w * h), t);
-        CleanAnswer::Done
-    } else {
-        CleanAnswer::Refused(refusal)
-    }
+    clean_refusal(details, w, h, t)?;
+    let n = DETAIL_STRIDE * (w * h);
+    clean_all(&mut details[..n], t);
+    Ok(())
 }

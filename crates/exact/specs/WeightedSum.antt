@@ -1,6 +1,6 @@
 -- Weighted sums. Each formula of document 01 is a sum of whole weights times integers over a whole divisor.
 -- Contracts cite `weighted_sum`; proofs use its laws (`proofs/WeightedSumLaws.antt`).
-use Rattle.std.specs.Prelude.{◌≡◌, refl, List, [], ◌∷◌, ℕ, ◌+◌, ◌^◌, ◌≤◌, length, ℤ, pos, negsuc, ◌+ℤ◌, ◌*ℤ◌, nat_abs}
+use Rattle.std.specs.Prelude.{◌≡◌, refl, List, [], ◌∷◌, ℕ, ◌+◌, ◌^◌, ◌≤◌, ℤ, pos, negsuc, ◌+ℤ◌, ◌*ℤ◌, nat_abs}
 use Rattle.std.proofs.Common.{lit≤}
 
 -- weights times values, term by term, added up. Where one list is longer, the rest of it does not count.
@@ -23,13 +23,6 @@ sizes (z ∷ zs) = nat_abs z + sizes zs
 abbrev pub Within : ℕ → List ℤ → Type 0
 Within n [] = Unit {0}
 Within n (z ∷ zs) = (nat_abs z ≤ n) × Within n zs
-
--- the precondition of the code on weights and values: as many of each, at most nine, and each weight at most 2 ^ 26 in
--- size
-pub record Summable (ws vs : List ℤ) : Type 0 where
-  pub alike : length ws ≡ length vs
-  pub few : length ws ≤ 9
-  pub small : Within (2 ^ 26) ws
 
 -- r is the weighted sum; with its size, so that the rounding of a quotient takes it as it is
 pub record Summed (ws vs : List ℤ) (r : ℤ) : Type 0 where

@@ -9,4 +9,4 @@ mod sums;
 
 pub use filling::copy_over;
 pub use rounding::{round_even, round_even_narrow, round_quotient};
-pub use sums::{weighted_mean6, weighted_sum3, weighted_sum6};
+pub use sums::{weighted_mean, weighted_sum};

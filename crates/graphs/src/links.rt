@@ -13,7 +13,7 @@ pub fn link_self(links: &mut [u32])
     }
 }
 
-// Where the links from t end.
+// Where the links from t end. A `while`: it follows links and counts nothing.
 fn root_of(links: &[u32], t: usize) -> usize
     requires { (t < length links.now) × Linked links.now }
     ensures { Root links.now t result }

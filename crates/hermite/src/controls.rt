@@ -65,7 +65,7 @@ fn sum_beyond(z: i64) -> bool
     if z < -16777216 { true } else { 16777216 < z }
 }
 
-// Whether one of the sums of a control point is. No early return, as in `net::any_beyond`.
+// Whether one of the sums of a control point is. No early return, as in `net::any_outside`.
 fn point_beyond(c: [i64; 3]) -> bool
     ensures { result ≡ any_beyond (three_of c) }
 {

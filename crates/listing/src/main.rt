@@ -6,15 +6,17 @@ ghost use Rattle.std.specs.Prelude.{◌+◌, ◌*◌, ◌≤◌, ◌<◌, length
 ghost use Rattle.net.specs.Refusals.{AcceptedNet};
 ghost use Rattle.listing_text.specs.Listing.{longest_line};
 
-use listing_input::{BUFFER_SIZE, INPUT_SIZE, ListAnswer, refine_input};
+use listing_input::{BUFFER_SIZE, INPUT_SIZE, refine_input};
 use listing_text::{list_pieces, list_refusal};
+use net::Refusal;
 use std::io::Read;
 
 // So many bytes of the listing are collected before they are written. The longest listing, of at most 1,821 lines of at
 // most 46 bytes each, then takes at most six writes.
 const TEXT_SIZE: usize = 16384;
 
-// Reads until the buffer is full, the input ends or a read fails; answers how many bytes stand at the buffer's front.
+// Reads until the buffer is full, the input ends or a read fails; answers how many bytes stand at the buffer's front. A
+// `while`: a read gives as many bytes as it likes.
 fn read_full(input: &mut impl Read, buffer: &mut [u8]) -> usize
     ensures { result ≤ length buffer.new }
 {
@@ -51,7 +53,7 @@ fn print_pieces(
     1 + w * h
 }
 
-// The pieces one after the other.
+// The pieces one after the other. A `while`: how many go out at once, `print_pieces` tells.
 fn print_listing(rt: &impl Print, net: &[i32], w: usize, h: usize)
     requires { AcceptedNet net.now w h }
 {
@@ -64,9 +66,9 @@ fn print_listing(rt: &impl Print, net: &[i32], w: usize, h: usize)
 }
 
 // The line of a refusal.
-fn print_refusal(rt: &impl Print, n: u32) {
+fn print_refusal(rt: &impl Print, refusal: Refusal) {
     let mut line = [0u8; 64];
-    let count = list_refusal(n, &mut line);
+    let count = list_refusal(refusal.number(), &mut line);
     let _ = rt.write_all(&line[..count]);
 }
 
@@ -77,9 +79,8 @@ fn main(rt: HostRuntime) {
     let count = read_full(&mut rt.stdin(), &mut input);
     let mut net = [0i32; BUFFER_SIZE];
     let mut refined = [0i32; BUFFER_SIZE];
-    let answer = refine_input(&input, count, &mut net, &mut refined);
-    match answer {
-        ListAnswer::Net(w, h) => print_listing(&rt, &refined, w, h),
-        ListAnswer::Refused(n) => print_refusal(&rt, n),
+    match refine_input(&input, count, &mut net, &mut refined) {
+        Ok((w, h)) => print_listing(&rt, &refined, w, h),
+        Err(refusal) => print_refusal(&rt, refusal),
     }
 }

@@ -1,9 +1,12 @@
 -- Document 01, "Door corner", the listing program: from the bytes of its input to what it prints.
-use Rattle.std.specs.Prelude.{◌≡◌, refl, cond, List, [], ◌∷◌, ◌++◌, ℕ, ◌≤◌, ℤ, pos, nat_abs, length, get_or, take, replicate}
+use Rattle.std.specs.Prelude.{◌≡◌, refl, cond, List, [], ◌∷◌, ◌++◌, ℕ, ◌≤◌, ℤ, pos, nat_abs, length, get_or, take, replicate, Result, Ok, Err}
 use Rattle.std.proofs.Common.{ap, arith}
 use Rattle.exact.specs.Filling.{runs}
 use Rattle.net.specs.Net.{numbers, squares}
 use Rattle.net.specs.Refusals.{first_fault, accepted, output_after, net_beyond, AcceptedNet}
+use Rattle.net.specs.Results.{refusal_number}
+use Rattle.net.specs.declared.refusals.Refusal.{Refusal}
+use Rattle.net.specs.declared.refusals.Refusal.TheVariants as refusal
 use Rattle.subdivision.specs.Refinement.{refined_side}
 use Rattle.steps.specs.RefinedNet.{refined_net}
 use Rattle.refine.specs.Refusals.{too_short, size_faults, net_faults}
@@ -12,8 +15,6 @@ use Rattle.words.specs.Answers.{answer}
 use Rattle.reader.specs.Refusals.{read_faults, short_for}
 use Rattle.decimal.specs.Decimal.{digits_of, decimal}
 use Rattle.listing_text.specs.Listing.{listing, refusal_line}
-use Rattle.listing_input.specs.declared.files.ListAnswer.{ListAnswer}
-use Rattle.listing_input.specs.declared.files.ListAnswer.TheVariants as listed
 
 -- 'It takes at most the first 65,536 bytes', and 'its net and output buffers hold 16,384 numbers each'
 abbrev pub input_size : ℕ
@@ -23,9 +24,9 @@ abbrev pub buffer_size : ℕ
 buffer_size = 16384
 
 -- document 01's number of an answer, 0 where nothing is refused, and its values: the refined width and height
-abbrev pub list_outcome : ListAnswer → ℕ × List ℕ
-list_outcome (listed.Net w h) = (0, w ∷ h ∷ [])
-list_outcome (listed.Refused n) = (n, [])
+abbrev pub list_outcome : Result (ℕ × ℕ) Refusal → ℕ × List ℕ
+list_outcome (Ok (w, h)) = (0, w ∷ h ∷ [])
+list_outcome (Err r) = (refusal_number r, [])
 
 -- 'reads a net file .., refines once': the first fault of reading into a buffer of `net_room` numbers, and then of
 -- refining into one of `out_room`; one step needs no scratch
@@ -49,13 +50,13 @@ list_answer file net_room out_room =
     answer (list_refusal file net_room out_room) (refined_side (file_width file) ∷ refined_side (file_height file) ∷ [])
 
 -- an answer with a size comes with an accepted net of that size
-abbrev pub ReadyToList : ListAnswer → List ℤ → Type 0
-ReadyToList (listed.Net w h) net = AcceptedNet net w h
-ReadyToList (listed.Refused n) net = Unit {0}
+abbrev pub ReadyToList : Result (ℕ × ℕ) Refusal → List ℤ → Type 0
+ReadyToList (Ok (w, h)) net = AcceptedNet net w h
+ReadyToList (Err r) net = Unit {0}
 
 -- what refining a file answers and leaves: of the file, the buffers for its net and for the refined net before the
 -- call; and of the answer and the two buffers after it. A refusal changes neither.
-pub record RefineFileContract (file : List ℕ) (net refined : List ℤ) (r : ListAnswer) (net_after refined_after : List ℤ) : Type 0 where
+pub record RefineFileContract (file : List ℕ) (net refined : List ℤ) (r : Result (ℕ × ℕ) Refusal) (net_after refined_after : List ℤ) : Type 0 where
   pub answered : list_outcome r ≡ list_answer file (length net) (length refined)
   pub net_read : net_after ≡ output_after (list_refusal file (length net) (length refined)) (file_numbers file) net
   pub net_refined : refined_after
@@ -85,7 +86,7 @@ printed input = file_text (take input_size input)
 buffers : (input_size ≡ 65536) × (buffer_size ≡ 16384)
 buffers = (refl, refl)
 
-outcomes : (list_outcome (listed.Net 3 5) ≡ (0, 3 ∷ 5 ∷ [])) × (list_outcome (listed.Refused 4) ≡ (4, []))
+outcomes : (list_outcome (Ok (3, 5)) ≡ (0, 3 ∷ 5 ∷ [])) × (list_outcome (Err refusal.Depth) ≡ (4, []))
 outcomes = (refl, refl)
 
 empty_input : printed [] ≡ 114 ∷ 101 ∷ 102 ∷ 117 ∷ 115 ∷ 101 ∷ 100 ∷ 32 ∷ 55 ∷ 10 ∷ []
@@ -107,16 +108,16 @@ answers = (refl, refl, refl, refl)
 steps : (step_refusal 2 514 0 ≡ 4) × (step_refusal 2 3 134 ≡ 5) × (step_refusal 2 3 135 ≡ 0)
 steps = (refl, refl, refl)
 
-ready_to_list : ReadyToList (listed.Net 2 2) (replicate (numbers 2 2) (pos 16777216))
+ready_to_list : ReadyToList (Ok (2, 2)) (replicate (numbers 2 2) (pos 16777216))
 unfolding net_beyond
 ready_to_list = record { size = refl; long = refl; in_range = refl }
 
 -- what the contract and the buffers rule out: of an empty file, another number than 7 and a change of either buffer;
 -- and any other length or count
 refused_otherwise :
-    (RefineFileContract [] (pos 1 ∷ []) (pos 2 ∷ []) (listed.Refused 8) (pos 1 ∷ []) (pos 2 ∷ []) → ⊥)
-    × (RefineFileContract [] (pos 1 ∷ []) (pos 2 ∷ []) (listed.Refused 7) (pos 9 ∷ []) (pos 2 ∷ []) → ⊥)
-    × (RefineFileContract [] (pos 1 ∷ []) (pos 2 ∷ []) (listed.Refused 7) (pos 1 ∷ []) (pos 9 ∷ []) → ⊥)
+    (RefineFileContract [] (pos 1 ∷ []) (pos 2 ∷ []) (Err refusal.WrongWord) (pos 1 ∷ []) (pos 2 ∷ []) → ⊥)
+    × (RefineFileContract [] (pos 1 ∷ []) (pos 2 ∷ []) (Err refusal.MissingWord) (pos 9 ∷ []) (pos 2 ∷ []) → ⊥)
+    × (RefineFileContract [] (pos 1 ∷ []) (pos 2 ∷ []) (Err refusal.MissingWord) (pos 1 ∷ []) (pos 9 ∷ []) → ⊥)
 refused_otherwise = (
   (λ c. omega (arith, ap (λ (r : ℕ × List ℕ). r.0) c.answered)),
   (λ c. omega (arith, ap (λ (l : List ℤ). nat_abs (get_or l 0 (pos 0))) c.net_read)),

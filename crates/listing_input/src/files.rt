@@ -2,11 +2,12 @@
 // number is stored.
 ghost use Rattle.std.specs.Prelude.{◌≡◌, false, [], ◌∷◌, take};
 ghost use Rattle.net.specs.Refusals.{bad_size};
+ghost use Rattle.net.specs.Results.{refused};
 ghost use Rattle.reader.specs.Answers.{read_answer};
 ghost use Rattle.listing_input.specs.Printed.{step_refusal, RefineFileContract, Buffers};
 
-use net::STRIDE;
-use reader::{ReadAnswer, check_file, read};
+use net::{Refusal, STRIDE};
+use reader::{check_file, read};
 use refine::{refine, size_refusal};
 
 // The listing program's buffers: at most so many bytes of its input are taken, and each of its two nets has room for so
@@ -15,26 +16,16 @@ pub const INPUT_SIZE: usize = 65536;
 
 pub const BUFFER_SIZE: usize = 16384;
 
-// The width and the height of the refined net.
-#[derive(Clone, Copy)]
-pub enum ListAnswer {
-    Net(usize, usize),
-    Refused(u32),
-}
-
-// 4 or 5 of one refinement into `room` numbers, or 0. One step needs no scratch.
-fn step_refusal(w: usize, h: usize, room: usize) -> u32
+// 4 or 5 of one refinement into `room` numbers. One step needs no scratch.
+fn step_refusal(w: usize, h: usize, room: usize) -> Result<(), Refusal>
     requires { bad_size w h ≡ false }
-    ensures { result ≡ step_refusal w h room }
+    ensures { refused result ≡ step_refusal w h room }
 {
-    let refusal = size_refusal(w, h, 1);
-    if refusal != 0 {
-        return refusal;
-    }
+    size_refusal(w, h, 1)?;
     if room < STRIDE * ((2 * w - 1) * (2 * h - 1)) {
-        return 5;
+        return Err(Refusal::Room);
     }
-    0
+    Ok(())
 }
 
 // The same, of a file of a net of width w and height h. For `refine_file`, which has checked the file.
@@ -44,37 +35,37 @@ fn refine_checked(
     h: usize,
     net: &mut [i32],
     refined: &mut [i32],
-) -> ListAnswer
+) -> Result<(usize, usize), Refusal>
     requires { read_answer file.now net.old ≡ (0, w ∷ h ∷ []) }
     ensures { RefineFileContract file.now net.old refined.old result
         net.new refined.new }
 {
-    let refusal = step_refusal(w, h, refined.len());
-    if refusal != 0 {
-        return ListAnswer::Refused(refusal);
-    }
+    step_refusal(w, h, refined.len())?;
     let mut scratch = [0i32; 1];
-    read(file, net);
-    refine(net, w, h, 1, refined, &mut scratch);
-    ListAnswer::Net(2 * w - 1, 2 * h - 1)
+    let _ = read(file, net);
+    let _ = refine(net, w, h, 1, refined, &mut scratch);
+    Ok((2 * w - 1, 2 * h - 1))
 }
 
-// The file's numbers over the front of `net`, and the net that one refinement makes of them over the front of
-// `refined`; or the first fault of reading and then of refining, which changes neither. No preconditions.
-fn refine_file(file: &[u8], net: &mut [i32], refined: &mut [i32]) -> ListAnswer
+// The file's numbers over the front of `net`, the net that one refinement makes of them over the front of `refined`,
+// and its width and height; or the first fault of reading and then of refining, which changes neither. No
+// preconditions.
+fn refine_file(file: &[u8], net: &mut [i32], refined: &mut [i32]) -> Result<(usize, usize), Refusal>
     ensures { RefineFileContract file.now net.old refined.old result
         net.new refined.new }
 {
-    let found = check_file(file, false, net.len());
-    match found {
-        ReadAnswer::Size(w, h) => refine_checked(file, w, h, net, refined),
-        ReadAnswer::Refused(n) => ListAnswer::Refused(n),
-    }
+    let (w, h) = check_file(file, false, net.len())?;
+    refine_checked(file, w, h, net, refined)
 }
 
 // The same of the first `count` bytes of the program's input, in the program's buffers. For the listing program, whose
 // buffers are held to document 01's sizes by the precondition.
-pub fn refine_input(input: &[u8], count: usize, net: &mut [i32], refined: &mut [i32]) -> ListAnswer
+pub fn refine_input(
+    input: &[u8],
+    count: usize,
+    net: &mut [i32],
+    refined: &mut [i32],
+) -> Result<(usize, usize), Refusal>
     requires { Buffers input.now count net.old refined.old }
     ensures { RefineFileContract (take count input.now) net.old refined.old result
         net.new refined.new }

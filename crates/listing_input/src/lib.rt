@@ -4,4 +4,4 @@
 mod files;
 
 // For the listing program, which lends its buffers.
-pub use files::{BUFFER_SIZE, INPUT_SIZE, ListAnswer, refine_input};
+pub use files::{BUFFER_SIZE, INPUT_SIZE, refine_input};

@@ -12,9 +12,7 @@ fn store_text(text: &[u8], out: &mut [u8]) -> usize
     requires { length text.now ≤ length out.old }
     ensures { Stored out.old 0 text.now out.new result }
 {
-    for (i, &b) in text.iter().enumerate() {
-        out[i] = b;
-    }
+    out[..text.len()].copy_from_slice(text);
     text.len()
 }
 

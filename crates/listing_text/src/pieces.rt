@@ -7,7 +7,7 @@ ghost use Rattle.listing_text.specs.Listing.{piece_text, longest_line};
 ghost use Rattle.listing_text.specs.Collected.{PiecesContract};
 
 use crate::lines::{store_head_line, store_point_line};
-use surface::{PointAnswer, surface_point};
+use surface::surface_point;
 
 // A line is sure to fit where so many bytes are left (`longest_line`).
 const LONGEST_LINE: usize = 46;
@@ -32,10 +32,9 @@ fn list_piece(net: &[i32], w: usize, h: usize, n: usize, out: &mut [u8]) -> usiz
     }
     let i = (n - 1) % w;
     let j = (n - 1) / w;
-    let answer = surface_point(net, w, h, 1024 * i, 1024 * j);
-    match answer {
-        PointAnswer::At(point) => store_point_line(i, j, point.x, point.y, point.z, out),
-        PointAnswer::Refused(_) => 0,
+    match surface_point(net, w, h, 1024 * i, 1024 * j) {
+        Ok(point) => store_point_line(i, j, point.x, point.y, point.z, out),
+        Err(_) => 0,
     }
 }
 
@@ -57,10 +56,14 @@ pub fn list_pieces(net: &[i32], w: usize, h: usize, n: usize, out: &mut [u8]) ->
     let pieces = 1 + w * h;
     let last = out.len() - LONGEST_LINE;
     let mut at = 0;
-    let mut next = n;
-    while next < pieces && at <= last {
+    for next in n..pieces {
+        if last < at {
+            return Collected { count: at, next };
+        }
         at = add_piece(net, w, h, next, at, out);
-        next += 1;
     }
-    Collected { count: at, next }
+    Collected {
+        count: at,
+        next: pieces,
+    }
 }

@@ -1,10 +1,8 @@
 // Merging a coarse net and details into a net.
 #![tactic(auto)]
 
-mod answers;
 mod merging;
 mod sums;
 
 // The call of document 01: no preconditions.
-pub use answers::MergeAnswer;
 pub use merging::merge;

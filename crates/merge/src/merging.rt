@@ -1,14 +1,14 @@
 // Merging: nothing is written before it is known that nothing is refused.
 ghost use Rattle.std.specs.Prelude.{◌≡◌, false};
 ghost use Rattle.net.specs.Refusals.{first_fault};
+ghost use Rattle.net.specs.Results.{refused};
 ghost use Rattle.steps.specs.Steps.{Depth};
 ghost use Rattle.merge.specs.Refusals.{short_inputs, inputs_beyond, merge_faults, merge_refusal};
 ghost use Rattle.merge.specs.Answers.{MergeContract};
 
-use crate::answers::MergeAnswer;
 use crate::sums::{merged_beyond, store_merged};
 use details::{details_beyond, short_details};
-use net::{STRIDE, net_beyond, short_net};
+use net::{Refusal, STRIDE, net_beyond, short_net};
 use refine::size_refusal;
 
 // Whether the coarse net or the details are too short.
@@ -33,49 +33,60 @@ fn inputs_beyond(coarse: &[i32], details: &[i32], w: usize, h: usize) -> bool
     details_beyond(details, 2 * w - 1, 2 * h - 1)
 }
 
-// The first of 2, 5, 3 and 11, or 0, of a size that 1 and 4 do not refuse.
-fn numbers_refusal(coarse: &[i32], details: &[i32], w: usize, h: usize, room: usize) -> u32
+// The first of 2, 5, 3 and 11, of a size that 1 and 4 do not refuse.
+fn numbers_refusal(
+    coarse: &[i32],
+    details: &[i32],
+    w: usize,
+    h: usize,
+    room: usize,
+) -> Result<(), Refusal>
     requires { Depth w h 1 }
-    ensures { result ≡ first_fault (merge_faults coarse.now details.now w h room) }
+    ensures { refused result ≡ first_fault (merge_faults coarse.now details.now w h room) }
 {
     if short_inputs(coarse, details, w, h) {
-        return 2;
+        return Err(Refusal::Short);
     }
     if room < STRIDE * ((2 * w - 1) * (2 * h - 1)) {
-        return 5;
+        return Err(Refusal::Room);
     }
     if inputs_beyond(coarse, details, w, h) {
-        return 3;
+        return Err(Refusal::Range);
     }
     if merged_beyond(coarse, details, w, h) {
-        return 11;
+        return Err(Refusal::ResultRange);
     }
-    0
+    Ok(())
 }
 
-// The number of the first fault, 1, 4, 2, 5, 3 or 11, or 0 where there is none.
-fn merge_refusal(coarse: &[i32], details: &[i32], w: usize, h: usize, room: usize) -> u32
-    ensures { result ≡ merge_refusal coarse.now details.now w h room }
+// The first fault, 1, 4, 2, 5, 3 or 11.
+fn merge_refusal(
+    coarse: &[i32],
+    details: &[i32],
+    w: usize,
+    h: usize,
+    room: usize,
+) -> Result<(), Refusal>
+    ensures { refused result ≡ merge_refusal coarse.now details.now w h room }
 {
-    let refusal = size_refusal(w, h, 1);
-    if refusal != 0 {
-        return refusal;
-    }
+    size_refusal(w, h, 1)?;
     numbers_refusal(coarse, details, w, h, room)
 }
 
 // One refinement of the coarse net with the details added to it over the front of `out`, or the first of 1, 4, 2, 5, 3,
 // 11. Width and height are those of the coarse net.
 // Mirror images: `MirroredMerging` in `crates/mirror/specs/Promises.antt`.
-pub fn merge(coarse: &[i32], details: &[i32], w: usize, h: usize, out: &mut [i32]) -> MergeAnswer
+pub fn merge(
+    coarse: &[i32],
+    details: &[i32],
+    w: usize,
+    h: usize,
+    out: &mut [i32],
+) -> Result<(), Refusal>
     ensures { MergeContract coarse.now details.now w h out.old result
         out.new }
 {
-    let refusal = merge_refusal(coarse, details, w, h, out.len());
-    if refusal == 0 {
-        store_merged(coarse, details, w, h, out);
-        MergeAnswer::Done
-    } else {
-        MergeAnswer::Refused(refusal)
-    }
+    merge_refusal(coarse, details, w, h, out.len())?;
+    store_merged(coarse, details, w, h, out);
+    Ok(())
 }

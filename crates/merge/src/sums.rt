@@ -14,8 +14,8 @@ ghost use Rattle.details.specs.Refusals.{detail_limit};
 ghost use Rattle.merge.specs.Merge.{sum_point, sums, row_sums, merged_fields, merged_net};
 ghost use Rattle.merge.specs.Refusals.{merged_beyond, Mergeable, RowMergeable};
 
-use details::{DETAIL_STRIDE, first_outside, load_details};
-use net::{STRIDE, controls_beyond, load};
+use details::{DETAIL_STRIDE, load_details};
+use net::{STRIDE, any_outside, controls_beyond, load};
 use steps::{ROW_SIZE, refine_row, store_triangle};
 
 // Of a number in the net range and a detail in its range the sum fits.
@@ -152,11 +152,12 @@ fn any_large(coarse: &[i32], details: &[i32], w: usize, h: usize) -> bool
     ensures { result ≡ (any_outside 8388608 (take (numbers w h) coarse.now)
         || any_outside 8388608 (take (detail_numbers (refined_side w) (refined_side h)) details.now)) }
 {
-    if first_outside(coarse, STRIDE * (w * h), 8388608) {
+    let few = STRIDE * (w * h);
+    if any_outside(&coarse[..few], 8388608) {
         return true;
     }
-    let many = (2 * w - 1) * (2 * h - 1);
-    first_outside(details, DETAIL_STRIDE * many, 8388608)
+    let many = DETAIL_STRIDE * ((2 * w - 1) * (2 * h - 1));
+    any_outside(&details[..many], 8388608)
 }
 
 // Whether a number of the merged net is outside the net range. For the refusals of merging, which have found 1, 4, 2

@@ -1,15 +1,19 @@
 -- From what splitting, cleaning and merging promise, one after the other, to what the functions promise that call them.
+use Rattle.std.specs.Prelude.{Result, Ok, Err}
 use mathlib.Core.Path.{◌≡◌, sym, ap, subst, ◌∙◌}
 use mathlib.Core.Bool.{Bool, true, false, ◌||◌, cond}
 use mathlib.Core.List.{List, [], ◌∷◌, ◌++◌}
-use Prim.Native.Nat.{ℕ, ◌≤◌, ◌<◌}
+use Prim.Native.Nat.{ℕ, ◌≤◌}
 use lib.Dec.{ltb, lit<}
 use lib.IntN.{ℤ}
 use lib.ListN.{length, take}
 use borrow.Author.Tests.{ltb-false}
 use Rattle.exact.specs.Filling.{over}
 use Rattle.net.specs.Net.{numbers}
-use Rattle.net.specs.Refusals.{first_fault, bad_size, accepted, output_after, answer_by, too_short_for}
+use Rattle.net.specs.declared.refusals.Refusal.{Refusal}
+use Rattle.net.specs.Results.{refusal_number}
+use Rattle.net.specs.Refusals.{Fault, first_fault, bad_size, accepted, output_after, answer_by, too_short_for}
+use Rattle.net.proofs.Results.{refusal_there}
 use Rattle.net.proofs.Faults.{or_none, Clear, none_clear, fault_before, fault_after, not_carried_out, when_accepted, when_refused}
 use Rattle.details.specs.Refusals.{too_great}
 use Rattle.details.specs.Cleaning.{clean_output}
@@ -17,13 +21,9 @@ use Rattle.details.proofs.DetailLaws.{cleans}
 use Rattle.coarse.specs.Coarse.{coarse_side, coarse_net}
 use Rattle.split.specs.Refusals.{odd_faults, split_faults, outputs_short}
 use Rattle.split.specs.Answers.{SplitContract}
-use Rattle.split.specs.declared.answers.SplitAnswer.{SplitAnswer}
-use Rattle.split.specs.declared.answers.SplitAnswer.TheVariants as split-answer
 use Rattle.split.proofs.SplitLaws.{Splittable, split_accepted}
 use Rattle.merge.specs.Merge.{merged_net}
 use Rattle.merge.specs.Answers.{merge_refusal_of, merge_output, MergeContract}
-use Rattle.merge.specs.declared.answers.MergeAnswer.{MergeAnswer}
-use Rattle.merge.specs.declared.answers.MergeAnswer.TheVariants as merge-answer
 use Rattle.multiresolution.specs.Promises.{coarse_left, details_left, MovedBelow}
 use Rattle.multiresolution.specs.Calls.{round_trip_refusal, RoundTrip, cleaned_refusal, CleanedNet}
 use Rattle.multiresolution.proofs.RoundTrip.{untouched, merges_back, no_refusal, output_is, moved}
@@ -40,15 +40,13 @@ module _ (net : List ℤ) (w h : ℕ) (coarse details out : List ℤ) where
   split_refused = round_trip_refusal net w h coarse details out
 
   -- what splitting promised, with the output of the whole as another output
-  abbrev pub Split : SplitAnswer → List ℤ → List ℤ → Type 0
+  abbrev pub Split : Result (Unit {0}) Refusal → List ℤ → List ℤ → Type 0
   Split = SplitContract net w h (too_short_for w h (length out)) coarse details
 
-  -- where its answer is known
-  pub known : {b : Bool} {r s : SplitAnswer} (coarse' details' : List ℤ) → b ≡ too_short_for w h (length out) →
-      SplitContract net w h b coarse details r coarse' details' → r ≡ s → Split s coarse' details'
-  known {b} {r} {s} coarse' details' e k f =
-      subst (λ (a : SplitAnswer). Split a coarse' details') f
-      (subst (λ (x : Bool). SplitContract net w h x coarse details r coarse' details') e k)
+  -- the same, where the code has found whether the output of the whole is too short
+  known : {b : Bool} {r : Result (Unit {0}) Refusal} {coarse' details' : List ℤ} → b ≡ too_short_for w h (length out) →
+      SplitContract net w h b coarse details r coarse' details' → Split r coarse' details'
+  known {b} {r} {coarse'} {details'} e k = subst (λ (x : Bool). SplitContract net w h x coarse details r coarse' details') e k
 
   -- an accepted split, and what it left
   pub record Accepted (coarse' details' : List ℤ) : Type 0 where
@@ -62,7 +60,7 @@ module _ (net : List ℤ) (w h : ℕ) (coarse details out : List ℤ) where
   has_room e f =
       ltb-false (length out) (numbers w h) (sym (ap (λ (b : Bool). cond b false (ltb (length out) (numbers w h))) e) ∙ f)
 
-  pub accepted_split : {coarse' details' : List ℤ} → Split split-answer.Done coarse' details' → Accepted coarse' details'
+  pub accepted_split : {coarse' details' : List ℤ} → Split (Ok tt) coarse' details' → Accepted coarse' details'
   accepted_split k =
       let none : split_refused ≡ 0 = λ t. (sym k.answer t).0 in
       let short = too_short_for w h (length out) in
@@ -80,10 +78,12 @@ module _ (net : List ℤ) (w h : ℕ) (coarse details out : List ℤ) where
 
   -- ---- splitting and merging
 
-  pub round_trip_done : {r : MergeAnswer} {coarse' details' out' : List ℤ} → Split split-answer.Done coarse' details' →
+  pub round_trip_done : {b : Bool} {r : Result (Unit {0}) Refusal} {coarse' details' out' : List ℤ} →
+      b ≡ too_short_for w h (length out) → SplitContract net w h b coarse details (Ok tt) coarse' details' →
       MergeContract coarse' details' (coarse_side w) (coarse_side h) out r out' →
       RoundTrip net w h coarse details out r coarse' details' out'
-  round_trip_done {r} {coarse'} {details'} {out'} k m =
+  round_trip_done {b} {r} {coarse'} {details'} {out'} e split m =
+      let k = known e split in
       let a = accepted_split k in
       let d = details_left net w h details in
       let u = untouched net w h coarse details a.can in
@@ -103,16 +103,6 @@ module _ (net : List ℤ) (w h : ℕ) (coarse details out : List ℤ) where
             ∙ when_accepted split_refused (over (take (numbers w h) net) out) out a.none;
       }
 
-  pub round_trip_refused : {n : ℕ} {coarse' details' : List ℤ} → Split (split-answer.Refused n) coarse' details' →
-      RoundTrip net w h coarse details out (merge-answer.Refused n) coarse' details' out
-  round_trip_refused k =
-      record {
-        answer = k.answer;
-        coarse_after = k.coarse_after;
-        details_after = k.details_after;
-        out_after = when_refused split_refused (over (take (numbers w h) net) out) out (refused_by k.answer).1;
-      }
-
   -- ---- splitting, cleaning and merging
 
   module _ (t : ℕ) where
@@ -120,24 +110,32 @@ module _ (net : List ℤ) (w h : ℕ) (coarse details out : List ℤ) where
     refused = cleaned_refusal net w h t coarse details out
 
     -- 1, 10 and 12
-    abbrev pub First : Type 0
-    First = Clear (odd_faults w h ++ (too_great t, 12) ∷ [])
+    abbrev pub first_faults : List Fault
+    first_faults = odd_faults w h ++ (too_great t, 12) ∷ []
+
+    abbrev First : Type 0
+    First = Clear first_faults
+
+    first_clear : 0 ≡ first_fault first_faults → First
+    first_clear e = none_clear first_faults (lit< tt, (lit< tt, (lit< tt, tt))) (sym e)
 
     -- where these do not refuse, the refusals are those of splitting
     same_refusal : First → split_refused ≡ refused
     same_refusal k =
         let rest = split_faults net w h (too_short_for w h (length out) || outputs_short w h (length coarse) (length details)) in
         sym (fault_after (odd_faults w h) rest (k.0, (k.1.0, tt)))
-        ∙ fault_after (odd_faults w h ++ (too_great t, 12) ∷ []) rest k
+        ∙ fault_after first_faults rest k
 
-    pub cleaned_done : {r : MergeAnswer} {coarse' details' details'' out' : List ℤ} → First →
-        Split split-answer.Done coarse' details' → details'' ≡ clean_output details' w h t →
+    pub cleaned_done : {b : Bool} {r : Result (Unit {0}) Refusal} {coarse' details' details'' out' : List ℤ} →
+        0 ≡ first_fault first_faults → b ≡ too_short_for w h (length out) →
+        SplitContract net w h b coarse details (Ok tt) coarse' details' → details'' ≡ clean_output details' w h t →
         MergeContract coarse' (clean_output details' w h t) (coarse_side w) (coarse_side h) out r out' →
         CleanedNet net w h t coarse details out r coarse' details'' out'
-    cleaned_done {r} {coarse'} {details'} {details''} {out'} first k e m =
+    cleaned_done {b} {r} {coarse'} {details'} {details''} {out'} first f split e m =
+        let k = known f split in
         let a = accepted_split k in
         let d = details_left net w h details in
-        let same = same_refusal first in
+        let same = same_refusal (first_clear first) in
         let zero : refused ≡ 0 = sym same ∙ a.none in
         let left : clean_output details' w h t ≡ clean_output d w h t = ap (λ (l : List ℤ). clean_output l w h t) a.details_is in
         let none = no_refusal net w h coarse details a.can t (clean_output d w h t) (cleans d w h t) out a.room in
@@ -159,8 +157,8 @@ module _ (net : List ℤ) (w h : ℕ) (coarse details out : List ℤ) where
         }
 
     -- refused: nothing has changed
-    nothing_cleaned : {n : ℕ} → n ≡ refused → (n ≡ 0 → ⊥) →
-        CleanedNet net w h t coarse details out (merge-answer.Refused n) coarse details out
+    nothing_cleaned : {n : Refusal} → refusal_number n ≡ refused → (refusal_number n ≡ 0 → ⊥) →
+        CleanedNet net w h t coarse details out (Err n) coarse details out
     nothing_cleaned e there =
         let r : refused ≡ 0 → ⊥ = λ z. there (e ∙ z) in
         record {
@@ -171,20 +169,23 @@ module _ (net : List ℤ) (w h : ℕ) (coarse details out : List ℤ) where
           moved = λ z some. absurd (r z);
         }
 
-    pub first_refused : {n : ℕ} → n ≡ first_fault (odd_faults w h ++ (too_great t, 12) ∷ []) → (n ≡ 0 → ⊥) →
-        CleanedNet net w h t coarse details out (merge-answer.Refused n) coarse details out
-    first_refused e there =
+    pub first_refused : {n : Refusal} → refusal_number n ≡ first_fault first_faults →
+        CleanedNet net w h t coarse details out (Err n) coarse details out
+    first_refused {n} e =
         nothing_cleaned
-        (e ∙ fault_before (odd_faults w h ++ (too_great t, 12) ∷ [])
+        (e ∙ fault_before first_faults
         (split_faults net w h (too_short_for w h (length out) || outputs_short w h (length coarse) (length details)))
-        (λ z. there (e ∙ z))) there
+        (λ z. refusal_there n (e ∙ z))) (refusal_there n)
 
-    pub cleaned_refused : {n : ℕ} {coarse' details' : List ℤ} → First → Split (split-answer.Refused n) coarse' details' →
-        CleanedNet net w h t coarse details out (merge-answer.Refused n) coarse' details' out
-    cleaned_refused {n} {coarse'} {details'} first k =
-        let b = refused_by k.answer in
-        let c : coarse ≡ coarse' = when_refused split_refused (coarse_left net w h coarse) coarse b.1 ∙ sym k.coarse_after in
-        let d : details ≡ details' = when_refused split_refused (details_left net w h details) details b.1 ∙ sym k.details_after in
-        subst (λ (x : List ℤ). CleanedNet net w h t coarse details out (merge-answer.Refused n) x details' out) c
-        (subst (λ (x : List ℤ). CleanedNet net w h t coarse details out (merge-answer.Refused n) coarse x out) d
-        (nothing_cleaned (b.0 ∙ same_refusal first) (λ z. b.1 (sym b.0 ∙ z))))
+    pub cleaned_refused : {b : Bool} {n : Refusal} {coarse' details' : List ℤ} →
+        0 ≡ first_fault first_faults → b ≡ too_short_for w h (length out) →
+        SplitContract net w h b coarse details (Err n) coarse' details' →
+        CleanedNet net w h t coarse details out (Err n) coarse' details' out
+    cleaned_refused {b} {n} {coarse'} {details'} first f split =
+        let k = known f split in
+        let there = refused_by k.answer in
+        let c : coarse ≡ coarse' = when_refused split_refused (coarse_left net w h coarse) coarse there.1 ∙ sym k.coarse_after in
+        let d : details ≡ details' = when_refused split_refused (details_left net w h details) details there.1 ∙ sym k.details_after in
+        subst (λ (x : List ℤ). CleanedNet net w h t coarse details out (Err n) x details' out) c
+        (subst (λ (x : List ℤ). CleanedNet net w h t coarse details out (Err n) coarse x out) d
+        (nothing_cleaned (there.0 ∙ same_refusal (first_clear first)) (λ z. there.1 (sym there.0 ∙ z))))

@@ -1,11 +1,13 @@
 -- What the functions that split, clean and merge in one go promise, of their arguments, of each lent slice before and
 -- after, and of their answer. Their refusals are those of splitting, where 5 is of the output too and 12 stands in its
 -- place, so that a refusal changes nothing.
-use Rattle.std.specs.Prelude.{◌≡◌, refl, Bool, ◌||◌, cond, List, [], ◌∷◌, ◌++◌, ℕ, ◌<◌, ◌-◌, ℤ, pos, length, take, replicate}
+use Rattle.std.specs.Prelude.{◌≡◌, refl, Bool, ◌||◌, cond, List, [], ◌∷◌, ◌++◌, ℕ, ◌<◌, ◌-◌, ℤ, pos, length, take, replicate, Result}
 use Rattle.exact.specs.Rounding.{rounded, floor_quotient}
 use Rattle.exact.specs.Filling.{runs}
 use Rattle.net.specs.Net.{numbers, grid, control_point, control_triangle}
 use Rattle.net.specs.Refusals.{Fault, first_fault, accepted, net_beyond, output_after, answer_by, too_short_for}
+use Rattle.net.specs.Results.{call_outcome}
+use Rattle.net.specs.declared.refusals.Refusal.{Refusal}
 use Rattle.steps.specs.RefinedNet.{stored}
 use Rattle.details.specs.Refusals.{too_great}
 use Rattle.details.specs.Cleaning.{clean_output}
@@ -13,8 +15,6 @@ use Rattle.coarse.specs.Coarse.{coarse_side, coarsened, coarse_net}
 use Rattle.split.specs.Refusals.{odd_faults, split_faults, outputs_short}
 use Rattle.split.specs.Answers.{split_refusal_with, split_coarse, split_details}
 use Rattle.merge.specs.Merge.{merged_net}
-use Rattle.merge.specs.Answers.{merge_outcome}
-use Rattle.merge.specs.declared.answers.MergeAnswer.{MergeAnswer}
 use Rattle.multiresolution.specs.Promises.{details_left, MovedBelow}
 
 -- splitting and then merging: the first of 1, 10, 2, 5, 3, 11
@@ -22,8 +22,8 @@ abbrev pub round_trip_refusal : List ℤ → ℕ → ℕ → List ℤ → List �
 round_trip_refusal net w h coarse details out =
     split_refusal_with net w h (too_short_for w h (length out)) coarse details
 
-pub record RoundTrip (net : List ℤ) (w h : ℕ) (coarse details out : List ℤ) (r : MergeAnswer) (coarse' details' out' : List ℤ) : Type 0 where
-  pub answer : merge_outcome r ≡ answer_by (round_trip_refusal net w h coarse details out)
+pub record RoundTrip (net : List ℤ) (w h : ℕ) (coarse details out : List ℤ) (r : Result (Unit {0}) Refusal) (coarse' details' out' : List ℤ) : Type 0 where
+  pub answer : call_outcome r ≡ answer_by (round_trip_refusal net w h coarse details out)
   pub coarse_after : coarse' ≡ split_coarse (round_trip_refusal net w h coarse details out) net w h coarse
   pub details_after : details' ≡ split_details (round_trip_refusal net w h coarse details out) net w h details
   -- the net's own numbers
@@ -41,8 +41,8 @@ cleaned_refusal net w h t coarse details out =
 abbrev pub cleaned_left : ℕ → List ℤ → ℕ → ℕ → ℕ → List ℤ → List ℤ
 cleaned_left refusal net w h t details = cond (accepted refusal) (clean_output (details_left net w h details) w h t) details
 
-pub record CleanedNet (net : List ℤ) (w h t : ℕ) (coarse details out : List ℤ) (r : MergeAnswer) (coarse' details' out' : List ℤ) : Type 0 where
-  pub answer : merge_outcome r ≡ answer_by (cleaned_refusal net w h t coarse details out)
+pub record CleanedNet (net : List ℤ) (w h t : ℕ) (coarse details out : List ℤ) (r : Result (Unit {0}) Refusal) (coarse' details' out' : List ℤ) : Type 0 where
+  pub answer : call_outcome r ≡ answer_by (cleaned_refusal net w h t coarse details out)
   pub coarse_after : coarse' ≡ split_coarse (cleaned_refusal net w h t coarse details out) net w h coarse
   pub details_after : details' ≡ cleaned_left (cleaned_refusal net w h t coarse details out) net w h t details
   -- what the two outputs merge to

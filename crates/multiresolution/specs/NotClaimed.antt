@@ -1,13 +1,13 @@
 -- What the contracts do not allow: so nothing weaker goes by their names.
-use Rattle.std.specs.Prelude.{◌≡◌, refl, Bool, List, [], ◌∷◌, ℕ, ℤ, pos, nat_abs, replicate, set}
+use Rattle.std.specs.Prelude.{◌≡◌, refl, Bool, List, [], ◌∷◌, ℕ, ℤ, pos, nat_abs, replicate, set, Ok, Err}
 use Rattle.std.proofs.Common.{ap, arith, lit<}
 use Rattle.exact.specs.Rounding.{rounded, floor_quotient}
 use Rattle.exact.specs.Filling.{over, runs}
 use Rattle.net.specs.Net.{three, number, grid, control_point, control_triangle}
 use Rattle.net.specs.Refusals.{net_beyond}
+use Rattle.net.specs.declared.refusals.Refusal.TheVariants as refusal
 use Rattle.steps.specs.RefinedNet.{stored}
 use Rattle.coarse.specs.Coarse.{coarsened, coarse_net}
-use Rattle.merge.specs.declared.answers.MergeAnswer.TheVariants as answer
 use Rattle.multiresolution.specs.Promises.{MovedBelow}
 use Rattle.multiresolution.specs.Calls.{flat, RoundTrip, CleanedNet}
 
@@ -24,15 +24,15 @@ moved_by_seven m = omega (arith, m 0 0 (lit< tt) (lit< tt) three 2 (lit< tt))
 abbrev room : List ℤ
 room = replicate 36 (pos 0)
 
-not_refused : RoundTrip flat 3 3 room flat flat (answer.Refused 5) room flat flat → ⊥
+not_refused : RoundTrip flat 3 3 room flat flat (Err refusal.Room) room flat flat → ⊥
 unfolding net_beyond coarse_net coarsened stored grid runs rounded floor_quotient control_triangle control_point
 not_refused k = omega (arith, ap (λ (a : ℕ × Bool). a.0) k.answer)
 
-not_otherwise : RoundTrip flat 3 3 room flat flat answer.Done room flat (set flat 80 (pos 1)) → ⊥
+not_otherwise : RoundTrip flat 3 3 room flat flat (Ok tt) room flat (set flat 80 (pos 1)) → ⊥
 unfolding over net_beyond coarse_net coarsened stored grid runs rounded floor_quotient control_triangle control_point
 not_otherwise k = omega (arith, ap (λ (l : List ℤ). nat_abs (number l 80)) k.out_after)
 
 -- cleaned below 7, the last number of that net does not come back as 7
-not_moved : CleanedNet flat 3 3 7 room flat flat answer.Done room flat (set flat 80 (pos 7)) → ⊥
+not_moved : CleanedNet flat 3 3 7 room flat flat (Ok tt) room flat (set flat 80 (pos 7)) → ⊥
 unfolding net_beyond coarse_net coarsened stored grid runs rounded floor_quotient control_triangle control_point
 not_moved k = omega (arith, k.moved refl (lit< tt) 2 2 (lit< tt) (lit< tt) three 2 (lit< tt))

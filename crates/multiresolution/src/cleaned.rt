@@ -1,6 +1,7 @@
 // Splitting, cleaning and merging in one go: how far a cleaned net moves, held to by the code itself.
 ghost use Rattle.std.specs.Prelude.{◌≡◌, false, [], ◌∷◌, ◌++◌};
 ghost use Rattle.net.specs.Refusals.{first_fault, bad_size};
+ghost use Rattle.net.specs.Results.{refused};
 ghost use Rattle.details.specs.Refusals.{too_great};
 ghost use Rattle.details.specs.Cleaning.{clean_output};
 ghost use Rattle.coarse.specs.Coarse.{coarse_side};
@@ -9,22 +10,19 @@ ghost use Rattle.merge.specs.Answers.{MergeContract};
 ghost use Rattle.multiresolution.specs.Calls.{CleanedNet};
 
 use details::{clean, too_great};
-use merge::{MergeAnswer, merge};
-use net::too_short_for;
-use split::{SplitAnswer, odd_refusal, split_with};
+use merge::merge;
+use net::{Refusal, too_short_for};
+use split::{odd_refusal, split_with};
 
-// The first of 1, 10 and 12, or 0.
-fn threshold_refusal(w: usize, h: usize, t: u32) -> u32
-    ensures { result ≡ first_fault (odd_faults w h ++ (too_great t, 12) ∷ []) }
+// The first of 1, 10 and 12.
+fn threshold_refusal(w: usize, h: usize, t: u32) -> Result<(), Refusal>
+    ensures { refused result ≡ first_fault (odd_faults w h ++ (too_great t, 12) ∷ []) }
 {
-    let refusal = odd_refusal(w, h);
-    if refusal != 0 {
-        return refusal;
-    }
+    odd_refusal(w, h)?;
     if too_great(t) {
-        return 12;
+        return Err(Refusal::Threshold);
     }
-    0
+    Ok(())
 }
 
 // Details cleaned in place, and then merged. For `clean_net`, whose details and threshold cleaning accepts.
@@ -35,13 +33,13 @@ fn clean_and_merge(
     h: usize,
     t: u32,
     out: &mut [i32],
-) -> MergeAnswer
+) -> Result<(), Refusal>
     requires { bad_size w h ≡ false }
     ensures details_after { details.new ≡ clean_output details.old w h t }
     ensures merge_contract { MergeContract coarse.now (clean_output details.old w h t) (coarse_side w)
         (coarse_side h) out.old result out.new }
 {
-    let _cleaned = clean(details, w, h, t);
+    let _ = clean(details, w, h, t);
     merge(coarse, details, (w + 1) / 2, (h + 1) / 2, out)
 }
 
@@ -55,18 +53,12 @@ pub fn clean_net(
     coarse: &mut [i32],
     details: &mut [i32],
     out: &mut [i32],
-) -> MergeAnswer
+) -> Result<(), Refusal>
     ensures { CleanedNet net.now w h t coarse.old details.old out.old result
         coarse.new details.new out.new }
 {
-    let refusal = threshold_refusal(w, h, t);
-    if refusal != 0 {
-        return MergeAnswer::Refused(refusal);
-    }
+    threshold_refusal(w, h, t)?;
     let short = too_short_for(w, h, out.len());
-    let answer = split_with(net, w, h, short, coarse, details);
-    match answer {
-        SplitAnswer::Done => clean_and_merge(coarse, details, w, h, t, out),
-        SplitAnswer::Refused(n) => MergeAnswer::Refused(n),
-    }
+    split_with(net, w, h, short, coarse, details)?;
+    clean_and_merge(coarse, details, w, h, t, out)
 }

@@ -2,9 +2,13 @@
 #![tactic(auto)]
 
 mod records;
+mod refusals;
 mod sizes;
 mod storage;
 mod vertices;
+
+// Why a call refuses, in every crate.
+pub use refusals::Refusal;
 
 // The calls of document 01: no preconditions.
 pub use vertices::{vertex, vertex_refusal};
@@ -13,6 +17,6 @@ pub use vertices::{vertex, vertex_refusal};
 pub use records::{POINT_STRIDE, STRIDE};
 pub use sizes::{bad_side, bad_size, short_net, too_short_for};
 pub use storage::{
-    any_beyond, controls_beyond, load, load_point, net_beyond, number_beyond, store_point,
-    vertex_beyond,
+    any_beyond, any_outside, controls_beyond, load, load_point, net_beyond, number_beyond,
+    store_point, vertex_beyond,
 };

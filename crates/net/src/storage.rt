@@ -2,7 +2,7 @@
 ghost use Rattle.std.specs.Prelude.{◌≡◌, false, ◌+◌, ◌≤◌, length};
 ghost use Rattle.std.proofs.lemmas.List.Edits.{sets};
 ghost use Rattle.net.specs.Net.{control_point, control_triangle, vertex_at, stride, numbers, start, vertex_numbers};
-ghost use Rattle.net.specs.Refusals.{bad_size, beyond, any_beyond, controls_beyond, net_beyond};
+ghost use Rattle.net.specs.Refusals.{bad_size, outside, any_outside, beyond, any_beyond, controls_beyond, net_beyond};
 
 use crate::records::{POINT_STRIDE, STRIDE};
 
@@ -31,7 +31,7 @@ pub fn load(net: &[i32], w: usize, i: usize, j: usize) -> [[i32; 3]; 3]
 }
 
 // A control point stored from a place on. For the crates above, which have refused every output that is too short.
-pub fn store_point(point: [i32; 3], at: usize, out: &mut [i32])
+pub fn store_point<T: Copy>(point: [T; 3], at: usize, out: &mut [T])
     requires { at + 3 ≤ length out.old }
     ensures { out.new ≡ sets out.old at point }
 {
@@ -43,23 +43,40 @@ pub fn store_point(point: [i32; 3], at: usize, out: &mut [i32])
     out[at + 2] = z;
 }
 
-// Whether a number is outside the net range. Both limits are compared with: the least i32 has no size that fits.
+// Whether a number is above a limit in size. Both ends are compared with: the least i32 has no size that fits.
+fn number_outside(z: i32, limit: u32) -> bool
+    requires { limit ≤ 33554432 }
+    ensures { result ≡ outside limit z }
+{
+    let most = limit as i32;
+    if z < -most { true } else { most < z }
+}
+
+// Whether a number is outside the net range.
 pub fn number_beyond(z: i32) -> bool
     ensures { result ≡ beyond z }
 {
-    if z < -16777216 { true } else { 16777216 < z }
+    number_outside(z, 16777216)
 }
 
-// Whether one of the numbers is. No early return: the compiler tests several at once, and a vertex's nine numbers
-// without a branch.
-pub fn any_beyond(numbers: &[i32]) -> bool
-    ensures { result ≡ any_beyond numbers.now }
+// Whether one of the numbers is above a limit in size, the net's, the details', 2 to the power 25, or one below. No
+// early return: the compiler tests several at once, and a vertex's nine numbers without a branch.
+pub fn any_outside(numbers: &[i32], limit: u32) -> bool
+    requires { limit ≤ 33554432 }
+    ensures { result ≡ any_outside limit numbers.now }
 {
     let mut bad = false;
     for &z in numbers {
-        bad |= number_beyond(z);
+        bad |= number_outside(z, limit);
     }
     bad
+}
+
+// Whether one of the numbers is outside the net range.
+pub fn any_beyond(numbers: &[i32]) -> bool
+    ensures { result ≡ any_beyond numbers.now }
+{
+    any_outside(numbers, 16777216)
 }
 
 // Whether one of the numbers of a control point is.

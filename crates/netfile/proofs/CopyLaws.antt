@@ -4,7 +4,7 @@ use mathlib.Core.Bool.{Bool, true, false, cond, ◌||◌}
 use mathlib.Core.List.{List, [], ◌∷◌}
 use Prim.Native.Nat.{ℕ, ◌-◌, ◌≤◌}
 use native.Mathlib.Omega.{arith}
-use lib.Dec.{ltb, lit<}
+use lib.Dec.{ltb}
 use lib.IntN.{ℤ}
 use lib.ListN.{length, get_or, take}
 use borrow.Author.Tests.{ltb-false}
@@ -12,7 +12,7 @@ use Rattle.exact.specs.Filling.{over}
 use Rattle.exact.proofs.FillingLaws.{take_over, length_over}
 use Rattle.net.specs.Net.{numbers}
 use Rattle.net.specs.Refusals.{bad_size, short_net, net_beyond, output_after, too_short_for}
-use Rattle.net.proofs.Faults.{clear_none, or_none, answered, not_accepted, accepted_answer, refused_answer, when_accepted, when_refused}
+use Rattle.net.proofs.Faults.{clear_none, or_none, answered, accepted_answer, when_accepted}
 use Rattle.words.specs.NetFile.{net_file, file_size}
 use Rattle.words.specs.Answers.{answer}
 use Rattle.writer.specs.Refusals.{write_faults, write_refusal, no_room}
@@ -100,17 +100,3 @@ module _ (net : List ℤ) (w h : ℕ) (out : List ℕ) (back : List ℤ) where
               ∙ found.1
               ∙ when_accepted refusal (over (take (numbers w h) net) back) back none,
         )
-
-  -- or refused
-  pub not_copied : {n : ℕ} {l : List ℕ} → ◌≡◌ {A = ℕ × List ℕ} (n, []) (write_answer_with net w h short) →
-      l ≡ write_output_with net w h short out →
-      (◌≡◌ {A = ℕ × List ℕ} (n, []) (answer refusal (w ∷ h ∷ []))) × (l ≡ output_after refusal (net_file net w h) out)
-      × (back ≡ output_after refusal (take (numbers w h) net) back)
-  not_copied {n} {l} e f =
-      let outcome : n ≡ refusal = (λ t. (e t).0) ∙ same_refusal in
-      let there = not_accepted (write_refusal net w h short) (file_size w h ∷ []) (lit< tt) e in
-      let refused : refusal ≡ 0 → ⊥ = λ z. there (same_refusal ∙ z) in (
-        refused_answer refusal (w ∷ h ∷ []) outcome (λ z. refused (sym outcome ∙ z)),
-        f ∙ ap (λ (r : ℕ). output_after r (net_file net w h) out) same_refusal,
-        when_refused refusal (over (take (numbers w h) net) back) back refused,
-      )

@@ -4,9 +4,9 @@ ghost use Rattle.words.specs.Answers.{answer};
 ghost use Rattle.reader.specs.Answers.{read_outcome};
 ghost use Rattle.netfile.specs.Answers.{copy_refusal, copy_output, copy_back};
 
-use net::too_short_for;
-use reader::{ReadAnswer, read};
-use writer::{WriteAnswer, write_with};
+use net::{Refusal, too_short_for};
+use reader::read;
+use writer::write_with;
 
 // The net's file over the front of `out`, and the net that is read from these bytes over the front of `back`: the net's
 // first 9wh numbers.
@@ -16,16 +16,13 @@ pub fn copy_through_file(
     h: usize,
     out: &mut [u8],
     back: &mut [i32],
-) -> ReadAnswer
+) -> Result<(usize, usize), Refusal>
     ensures result_value { read_outcome result
         ≡ answer (copy_refusal net.now w h out.old back.old) (w ∷ h ∷ []) }
     ensures out_after { out.new ≡ copy_output net.now w h out.old back.old }
     ensures back_after { back.new ≡ copy_back net.now w h out.old back.old }
 {
     let short = too_short_for(w, h, back.len());
-    let written = write_with(net, w, h, short, out);
-    match written {
-        WriteAnswer::Written(n) => read(&out[0..n], back),
-        WriteAnswer::Refused(n) => ReadAnswer::Refused(n),
-    }
+    let n = write_with(net, w, h, short, out)?;
+    read(&out[0..n], back)
 }

@@ -1,10 +1,11 @@
 // The bytes of an outline: how many there are, and the tests of their count and of their values.
 ghost use Rattle.std.specs.Prelude.{◌≡◌, false, ◌≤◌, length};
 ghost use Rattle.net.specs.Refusals.{first_fault, bad_size};
+ghost use Rattle.net.specs.Results.{refused};
 ghost use Rattle.outline.specs.Outline.{triangles};
 ghost use Rattle.outline.specs.Refusals.{short_outline, any_above_one, bad_byte, outline_faults, outlined_faults};
 
-use net::short_net;
+use net::{Refusal, short_net};
 
 // How many triangles a net of an accepted size has. For the search and for `outlined_refine`; they test the size first.
 pub fn count_triangles(w: usize, h: usize) -> usize
@@ -42,28 +43,28 @@ fn bad_byte(outline: &[u8], w: usize, h: usize) -> bool
     any_above_one(&outline[..n])
 }
 
-// The first of 2 and 13 of an outline, or 0. For checking and for `outlined_points`; they test the size first.
-pub fn outline_refusal(outline: &[u8], w: usize, h: usize) -> u32
+// The first of 2 and 13 of an outline. For checking and for `outlined_points`; they test the size first.
+pub fn outline_refusal(outline: &[u8], w: usize, h: usize) -> Result<(), Refusal>
     requires { bad_size w h ≡ false }
-    ensures { result ≡ first_fault (outline_faults outline.now w h) }
+    ensures { refused result ≡ first_fault (outline_faults outline.now w h) }
 {
     if short_outline(outline, w, h) {
-        return 2;
+        return Err(Refusal::Short);
     }
     if bad_byte(outline, w, h) {
-        return 13;
+        return Err(Refusal::OutlineByte);
     }
-    0
+    Ok(())
 }
 
-// The first of 2 and 13 of a net with its outline, or 0. For `outlined_refine` and `outlined_refined_points`; they test
-// the size first.
-pub fn outlined_refusal(net: &[i32], w: usize, h: usize, outline: &[u8]) -> u32
+// The first of 2 and 13 of a net with its outline. For `outlined_refine` and `outlined_refined_points`; they test the
+// size first.
+pub fn outlined_refusal(net: &[i32], w: usize, h: usize, outline: &[u8]) -> Result<(), Refusal>
     requires { bad_size w h ≡ false }
-    ensures { result ≡ first_fault (outlined_faults net.now w h outline.now) }
+    ensures { refused result ≡ first_fault (outlined_faults net.now w h outline.now) }
 {
     if short_net(net, w, h) {
-        return 2;
+        return Err(Refusal::Short);
     }
     outline_refusal(outline, w, h)
 }

@@ -2,45 +2,39 @@
 ghost use Rattle.std.specs.Prelude.{◌≡◌, length};
 ghost use Rattle.exact.specs.Filling.{UnchangedFrom};
 ghost use Rattle.net.specs.Refusals.{first_fault};
+ghost use Rattle.net.specs.Results.{refused, call_outcome};
 ghost use Rattle.outline.specs.Refusals.{check_faults, free_search};
-ghost use Rattle.outline.specs.Answers.{check_outcome, check_answer};
+ghost use Rattle.outline.specs.Answers.{check_answer};
 
-use crate::answers::CheckAnswer;
 use crate::bytes::{count_triangles, outline_refusal};
 use crate::search::is_connected;
-use net::bad_size;
+use net::{Refusal, bad_size};
 
-// The first of 1, 2, 13 and 5, or 0; `room` is the length of the search.
-fn refusal_before(outline: &[u8], w: usize, h: usize, room: usize) -> u32
-    ensures { result ≡ first_fault (check_faults outline.now w h room) }
+// The first of 1, 2, 13 and 5; `room` is the length of the search.
+fn refusal_before(outline: &[u8], w: usize, h: usize, room: usize) -> Result<(), Refusal>
+    ensures { refused result ≡ first_fault (check_faults outline.now w h room) }
 {
     if bad_size(w, h) {
-        return 1;
+        return Err(Refusal::Size);
     }
-    let refusal = outline_refusal(outline, w, h);
-    if refusal != 0 {
-        return refusal;
-    }
+    outline_refusal(outline, w, h)?;
     if room < count_triangles(w, h) {
-        return 5;
+        return Err(Refusal::Room);
     }
-    0
+    Ok(())
 }
 
 // Whether an outline can be taken for a net of width w and height h, or the first of 1, 2, 13, 5, 14. Where no fault
 // before 14 is there, the first numbers of `search`, one a triangle, are free afterwards.
-pub fn check_outline(outline: &[u8], w: usize, h: usize, search: &mut [u32]) -> CheckAnswer
-    ensures result_value { check_outcome result ≡ check_answer outline.now w h (length search.old) }
+pub fn check_outline(outline: &[u8], w: usize, h: usize, search: &mut [u32]) -> Result<(), Refusal>
+    ensures result_value { call_outcome result ≡ check_answer outline.now w h (length search.old) }
     ensures unchanged_from { UnchangedFrom (free_search (check_faults outline.now w h (length search.old)) w h)
         search.old search.new }
 {
-    let refusal = refusal_before(outline, w, h, search.len());
-    if refusal != 0 {
-        return CheckAnswer::Refused(refusal);
-    }
+    refusal_before(outline, w, h, search.len())?;
     if is_connected(outline, w, h, search) {
-        CheckAnswer::Done
+        Ok(())
     } else {
-        CheckAnswer::Refused(14)
+        Err(Refusal::NotConnected)
     }
 }

@@ -1,13 +1,11 @@
 // Outlines: which triangles of a net are present.
 #![tactic(auto)]
 
-mod answers;
 mod bytes;
 mod checking;
 mod search;
 
 // The call of document 02, a: no preconditions.
-pub use answers::CheckAnswer;
 pub use checking::check_outline;
 
 // For the crates above, which have refused a size by 1 before, and before the last an outline by 2 and a search by 5.

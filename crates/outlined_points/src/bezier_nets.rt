@@ -1,33 +1,38 @@
 // Bézier nets of a net with an outline: the new rows, and then the plain call, which has 5 and 3 and writes the net.
 ghost use Rattle.std.specs.Prelude.{◌≡◌, length};
 ghost use Rattle.net.specs.Refusals.{first_fault};
-ghost use Rattle.bezier.specs.Answers.{bezier_outcome};
+ghost use Rattle.net.specs.Results.{refused, call_outcome};
 ghost use Rattle.outline.specs.Outline.{present};
 ghost use Rattle.outlined_points.specs.Refusals.{triangle_by, bezier_faults};
 ghost use Rattle.outlined_points.specs.Rows.{triangle_faults, AskedTriangle};
 ghost use Rattle.outlined_points.specs.Answers.{outlined_bezier_answer, outlined_bezier_output};
 
-use bezier::{BezierAnswer, bezier_net, no_triangle};
-use net::{bad_size, short_net};
+use bezier::{bezier_net, no_triangle};
+use net::{Refusal, bad_size, short_net};
 use outline::outline_refusal;
 
-// The number of the first fault of the net and of the asked triangle, 1, 6 or 2, or 0.
-fn triangle_refusal(net: &[i32], w: usize, h: usize, i: usize, j: usize, down: u32) -> u32
-    ensures { result ≡ first_fault (triangle_faults net.now w h i j down) }
+// The first fault of the net and of the asked triangle, 1, 6 or 2. `down` is a number, as C hands it in: 6 refuses what
+// is neither 0 nor 1.
+fn triangle_refusal(
+    net: &[i32],
+    w: usize,
+    h: usize,
+    i: usize,
+    j: usize,
+    down: u32,
+) -> Result<(), Refusal>
+    ensures { refused result ≡ first_fault (triangle_faults net.now w h i j down) }
 {
     if bad_size(w, h) {
-        return 1;
+        return Err(Refusal::Size);
     }
-    if no_triangle(w, h, i, j) {
-        return 6;
-    }
-    if 1 < down {
-        return 6;
+    if no_triangle(w, h, i, j) || 1 < down {
+        return Err(Refusal::Place);
     }
     if short_net(net, w, h) {
-        return 2;
+        return Err(Refusal::Short);
     }
-    0
+    Ok(())
 }
 
 // Whether the asked triangle is present.
@@ -38,7 +43,7 @@ fn is_present(outline: &[u8], w: usize, h: usize, i: usize, j: usize, down: u32)
     outline[2 * (j * (w - 1) + i) + down as usize] == 1
 }
 
-// The number of the first fault, 1, 6, 2, 13 or 15, or 0.
+// The first fault, 1, 6, 2, 13 or 15.
 fn bezier_refusal(
     net: &[i32],
     w: usize,
@@ -47,21 +52,15 @@ fn bezier_refusal(
     i: usize,
     j: usize,
     down: u32,
-) -> u32
-    ensures { result ≡ first_fault (bezier_faults net.now w h outline.now i j down) }
+) -> Result<(), Refusal>
+    ensures { refused result ≡ first_fault (bezier_faults net.now w h outline.now i j down) }
 {
-    let triangle = triangle_refusal(net, w, h, i, j, down);
-    if triangle != 0 {
-        return triangle;
-    }
-    let bytes = outline_refusal(outline, w, h);
-    if bytes != 0 {
-        return bytes;
-    }
+    triangle_refusal(net, w, h, i, j, down)?;
+    outline_refusal(outline, w, h)?;
     if is_present(outline, w, h, i, j, down) {
-        0
+        Ok(())
     } else {
-        15
+        Err(Refusal::OffDoor)
     }
 }
 
@@ -77,15 +76,12 @@ pub fn bezier_net_outlined(
     j: usize,
     down: u32,
     out: &mut [i32],
-) -> BezierAnswer
-    ensures result_value { bezier_outcome result ≡ outlined_bezier_answer net.now w h outline.now i j down
+) -> Result<(), Refusal>
+    ensures result_value { call_outcome result ≡ outlined_bezier_answer net.now w h outline.now i j down
         (length out.old) }
     ensures out_after { out.new ≡ outlined_bezier_output net.now w h outline.now i j down
         out.old }
 {
-    let refusal = bezier_refusal(net, w, h, outline, i, j, down);
-    if refusal != 0 {
-        return BezierAnswer::Refused(refusal);
-    }
+    bezier_refusal(net, w, h, outline, i, j, down)?;
     bezier_net(net, w, h, i, j, down == 1, out)
 }

@@ -2,31 +2,34 @@
 // and 3 and the point.
 ghost use Rattle.std.specs.Prelude.{◌≡◌};
 ghost use Rattle.net.specs.Refusals.{first_fault};
+ghost use Rattle.net.specs.Results.{refused};
 ghost use Rattle.surface.specs.Answers.{point_outcome, view_outcome};
 ghost use Rattle.outlined_points.specs.Refusals.{point_faults};
 ghost use Rattle.outlined_points.specs.Answers.{outlined_point_answer, outlined_point_answer_with, outlined_view_answer, outlined_view_answer_with};
 
 use door::on_door;
+use net::Refusal;
 use outline::outline_refusal;
 use places::place_refusal;
-use surface::{PointAnswer, ViewAnswer, surface_point_with, view_point_with};
+use surface::{Point, ViewPoint, surface_point_with};
 
-// The number of the first fault, 1, 6, 2, 13 or 15, or 0.
-fn point_refusal(net: &[i32], w: usize, h: usize, outline: &[u8], p: usize, q: usize) -> u32
-    ensures { result ≡ first_fault (point_faults net.now w h outline.now p q) }
+// The first fault, 1, 6, 2, 13 or 15.
+fn point_refusal(
+    net: &[i32],
+    w: usize,
+    h: usize,
+    outline: &[u8],
+    p: usize,
+    q: usize,
+) -> Result<(), Refusal>
+    ensures { refused result ≡ first_fault (point_faults net.now w h outline.now p q) }
 {
-    let place = place_refusal(net, w, h, p, q);
-    if place != 0 {
-        return place;
-    }
-    let bytes = outline_refusal(outline, w, h);
-    if bytes != 0 {
-        return bytes;
-    }
+    place_refusal(net, w, h, p, q)?;
+    outline_refusal(outline, w, h)?;
     if on_door(outline, w, h, 1024, p, q) {
-        0
+        Ok(())
     } else {
-        15
+        Err(Refusal::OffDoor)
     }
 }
 
@@ -40,14 +43,11 @@ pub fn surface_point_outlined_with(
     p: usize,
     q: usize,
     short: bool,
-) -> PointAnswer
+) -> Result<Point, Refusal>
     ensures { point_outcome result
         ≡ outlined_point_answer_with net.now w h outline.now p q short }
 {
-    let refusal = point_refusal(net, w, h, outline, p, q);
-    if refusal != 0 {
-        return PointAnswer::Refused(refusal);
-    }
+    point_refusal(net, w, h, outline, p, q)?;
     surface_point_with(net, w, h, p, q, short)
 }
 
@@ -61,7 +61,7 @@ pub fn surface_point_outlined(
     outline: &[u8],
     p: usize,
     q: usize,
-) -> PointAnswer
+) -> Result<Point, Refusal>
     ensures { point_outcome result ≡ outlined_point_answer net.now w h outline.now p q }
 {
     surface_point_outlined_with(net, w, h, outline, p, q, false)
@@ -76,15 +76,11 @@ pub fn view_point_outlined_with(
     p: usize,
     q: usize,
     short: bool,
-) -> ViewAnswer
+) -> Result<ViewPoint, Refusal>
     ensures { view_outcome result
         ≡ outlined_view_answer_with net.now w h outline.now p q short }
 {
-    let refusal = point_refusal(net, w, h, outline, p, q);
-    if refusal != 0 {
-        return ViewAnswer::Refused(refusal);
-    }
-    view_point_with(net, w, h, p, q, short)
+    Ok(surface_point_outlined_with(net, w, h, outline, p, q, short)?.into())
 }
 
 // The surface point in millimetres, for the viewer.
@@ -96,7 +92,7 @@ pub fn view_point_outlined(
     outline: &[u8],
     p: usize,
     q: usize,
-) -> ViewAnswer
+) -> Result<ViewPoint, Refusal>
     ensures { view_outcome result ≡ outlined_view_answer net.now w h outline.now p q }
 {
     view_point_outlined_with(net, w, h, outline, p, q, false)

@@ -1,9 +1,11 @@
 // The refusals of refining with an outline that come before the search. Callers establish the preconditions.
 ghost use Rattle.std.specs.Prelude.{◌≡◌, false};
 ghost use Rattle.net.specs.Refusals.{first_fault, bad_size};
+ghost use Rattle.net.specs.Results.{refused};
 ghost use Rattle.refine.specs.Refusals.{too_deep};
 ghost use Rattle.outlined_refine.specs.Refusals.{outlined_short, faults_before};
 
+use net::Refusal;
 use outline::{count_triangles, outlined_refusal};
 use refine::{size_refusal, too_short};
 use steps::side_after;
@@ -33,7 +35,7 @@ pub fn outlined_short(
     search < count_triangles(w, h)
 }
 
-// The first of 1, 4, 2, 13 and 5, or 0.
+// The first of 1, 4, 2, 13 and 5.
 pub fn refusal_before(
     net: &[i32],
     w: usize,
@@ -44,20 +46,14 @@ pub fn refusal_before(
     scratch: usize,
     fine: usize,
     search: usize,
-) -> u32
-    ensures { result ≡ first_fault (faults_before net.now w h k outline.now
+) -> Result<(), Refusal>
+    ensures { refused result ≡ first_fault (faults_before net.now w h k outline.now
         (outlined_short w h k room scratch fine search)) }
 {
-    let refusal = size_refusal(w, h, k);
-    if refusal != 0 {
-        return refusal;
-    }
-    let given = outlined_refusal(net, w, h, outline);
-    if given != 0 {
-        return given;
-    }
+    size_refusal(w, h, k)?;
+    outlined_refusal(net, w, h, outline)?;
     if outlined_short(w, h, k, room, scratch, fine, search) {
-        return 5;
+        return Err(Refusal::Room);
     }
-    0
+    Ok(())
 }

@@ -1,17 +1,19 @@
 // Refining with an outline: nothing is written but the search before it is known that nothing is refused.
 ghost use Rattle.std.specs.Prelude.{◌≡◌, ◌≤◌, length};
 ghost use Rattle.net.specs.Refusals.{output_after};
+ghost use Rattle.net.specs.Results.{call_outcome};
 ghost use Rattle.outline.specs.Outline.{triangles};
 ghost use Rattle.subdivision.specs.Refinement.{side_after};
 ghost use Rattle.steps.specs.Steps.{Depth};
 ghost use Rattle.fine_outline.specs.FineOutline.{fine_outline};
-ghost use Rattle.refine.specs.Answers.{refine_outcome, refusal_of, refine_answer, refine_output, RefineScratch};
+ghost use Rattle.refine.specs.Answers.{refusal_of, refine_answer, refine_output, RefineScratch};
 ghost use Rattle.outlined_refine.specs.Answers.{faults_of, outlined_refusal_of, outlined_answer, OutlinedLeft};
 
 use crate::faults::refusal_before;
 use fine_outline::write_fine_outline;
+use net::Refusal;
 use outline::is_connected;
-use refine::{RefineAnswer, refine};
+use refine::refine;
 
 // Plain refining, and then the outline of the refined net over the front of `fine`.
 fn refine_both(
@@ -23,10 +25,10 @@ fn refine_both(
     out: &mut [i32],
     scratch: &mut [i32],
     fine: &mut [u8],
-) -> RefineAnswer
+) -> Result<(), Refusal>
     requires { Depth w h k × (triangles w h ≤ length outline.now)
         × (triangles (side_after k w) (side_after k h) ≤ length fine.old) }
-    ensures result_value { refine_outcome result
+    ensures result_value { call_outcome result
         ≡ refine_answer net.now w h k out.old scratch.old }
     ensures out_after { out.new
         ≡ refine_output net.now w h k out.old scratch.old }
@@ -36,14 +38,9 @@ fn refine_both(
         ≡ output_after (refusal_of net.now w h k out.old scratch.old)
         (fine_outline outline.now w h k) fine.old }
 {
-    let answer = refine(net, w, h, k, out, scratch);
-    match answer {
-        RefineAnswer::Done => {
-            write_fine_outline(outline, w, h, k, fine);
-            RefineAnswer::Done
-        }
-        RefineAnswer::Refused(n) => RefineAnswer::Refused(n),
-    }
+    refine(net, w, h, k, out, scratch)?;
+    write_fine_outline(outline, w, h, k, fine);
+    Ok(())
 }
 
 // The k times refined net over the front of `out` and its outline over the front of `fine`, or the first of 1, 4, 2,
@@ -60,8 +57,8 @@ pub fn refine_outlined(
     scratch: &mut [i32],
     fine: &mut [u8],
     search: &mut [u32],
-) -> RefineAnswer
-    ensures result_value { refine_outcome result ≡ outlined_answer net.now w h k outline.now out.old
+) -> Result<(), Refusal>
+    ensures result_value { call_outcome result ≡ outlined_answer net.now w h k outline.now out.old
         scratch.old fine.old search.old }
     ensures outlined_left { OutlinedLeft
         (outlined_refusal_of net.now w h k outline.now out.old scratch.old
@@ -71,7 +68,7 @@ pub fn refine_outlined(
         net.now w h k outline.now out.old scratch.old fine.old
         search.old out.new scratch.new fine.new search.new }
 {
-    let refusal = refusal_before(
+    refusal_before(
         net,
         w,
         h,
@@ -81,12 +78,9 @@ pub fn refine_outlined(
         scratch.len(),
         fine.len(),
         search.len(),
-    );
-    if refusal != 0 {
-        return RefineAnswer::Refused(refusal);
-    }
+    )?;
     if !is_connected(outline, w, h, search) {
-        return RefineAnswer::Refused(14);
+        return Err(Refusal::NotConnected);
     }
     refine_both(net, w, h, k, outline, out, scratch, fine)
 }

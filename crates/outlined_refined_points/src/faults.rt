@@ -1,6 +1,7 @@
 // The refusals of refining with an outline and then a point that come before the search.
 ghost use Rattle.std.specs.Prelude.{◌≡◌, false, ◌||◌, [], ◌∷◌, ◌++◌, ◌≤◌};
 ghost use Rattle.net.specs.Refusals.{first_fault, bad_size};
+ghost use Rattle.net.specs.Results.{refused};
 ghost use Rattle.outline.specs.Refusals.{outlined_faults};
 ghost use Rattle.bounds.specs.DemandThree.{fine_edge};
 ghost use Rattle.refine.specs.Refusals.{too_deep};
@@ -9,6 +10,7 @@ ghost use Rattle.outlined_refine.specs.Refusals.{outlined_short};
 ghost use Rattle.outlined_refined_points.specs.Refusals.{off_door, point_faults_before};
 
 use door::on_door;
+use net::Refusal;
 use outline::outlined_refusal;
 use outlined_refine::outlined_short;
 use refine::size_refusal;
@@ -22,7 +24,7 @@ fn fine_edge(k: usize) -> usize
     1024 << k
 }
 
-// The first of 2, 13 and 15, or 0. The place is one of the refined grid.
+// The first of 2, 13 and 15. The place is one of the refined grid.
 fn door_refusal(
     net: &[i32],
     w: usize,
@@ -31,22 +33,20 @@ fn door_refusal(
     outline: &[u8],
     p: usize,
     q: usize,
-) -> u32
+) -> Result<(), Refusal>
     requires { (bad_size w h ≡ false) × (too_deep w h k ≡ false) × (off_grid w h k p q ≡ false) }
-    ensures { result ≡ first_fault (outlined_faults net.now w h outline.now
+    ensures { refused result ≡ first_fault (outlined_faults net.now w h outline.now
         ++ (off_door k outline.now w h p q, 15) ∷ []) }
 {
-    let refusal = outlined_refusal(net, w, h, outline);
-    if refusal != 0 {
-        return refusal;
-    }
+    outlined_refusal(net, w, h, outline)?;
     if on_door(outline, w, h, fine_edge(k), p, q) {
-        return 0;
+        Ok(())
+    } else {
+        Err(Refusal::OffDoor)
     }
-    15
 }
 
-// The first of 1, 4, 6, 2, 13, 15 and 5, or 0; `short` is whether another output is too short.
+// The first of 1, 4, 6, 2, 13, 15 and 5; `short` is whether another output is too short.
 pub fn refusal_before(
     net: &[i32],
     w: usize,
@@ -60,26 +60,17 @@ pub fn refusal_before(
     scratch: usize,
     fine: usize,
     search: usize,
-) -> u32
-    ensures { result ≡ first_fault (point_faults_before net.now w h k outline.now p q
+) -> Result<(), Refusal>
+    ensures { refused result ≡ first_fault (point_faults_before net.now w h k outline.now p q
         (short || outlined_short w h k room scratch fine search)) }
 {
-    let refusal = size_refusal(w, h, k);
-    if refusal != 0 {
-        return refusal;
-    }
+    size_refusal(w, h, k)?;
     if off_grid(w, h, k, p, q) {
-        return 6;
+        return Err(Refusal::Place);
     }
-    let given = door_refusal(net, w, h, k, outline, p, q);
-    if given != 0 {
-        return given;
+    door_refusal(net, w, h, k, outline, p, q)?;
+    if short || outlined_short(w, h, k, room, scratch, fine, search) {
+        return Err(Refusal::Room);
     }
-    if short {
-        return 5;
-    }
-    if outlined_short(w, h, k, room, scratch, fine, search) {
-        return 5;
-    }
-    0
+    Ok(())
 }

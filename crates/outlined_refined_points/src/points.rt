@@ -12,9 +12,10 @@ ghost use Rattle.outlined_refined_points.specs.Contract.{OutlinedPointContract};
 
 use crate::faults::refusal_before;
 use fine_outline::write_fine_outline;
+use net::Refusal;
 use outline::is_connected;
 use refined_points::refined_point;
-use surface::PointAnswer;
+use surface::Point;
 
 // Plain refining and the point, and then the outline of the refined net over the front of `fine`.
 fn point_both(
@@ -28,7 +29,7 @@ fn point_both(
     out: &mut [i32],
     scratch: &mut [i32],
     fine: &mut [u8],
-) -> PointAnswer
+) -> Result<Point, Refusal>
     requires { Depth w h k × (triangles w h ≤ length outline.now)
         × (triangles (side_after k w) (side_after k h) ≤ length fine.old) }
     ensures refined_point_contract { RefinedPointContract net.now w h k p q false out.old scratch.old
@@ -37,14 +38,9 @@ fn point_both(
         ≡ output_after (refusal_at net.now w h k p q false out.old scratch.old)
         (fine_outline outline.now w h k) fine.old }
 {
-    let answer = refined_point(net, w, h, k, p, q, out, scratch);
-    match answer {
-        PointAnswer::At(_) => {
-            write_fine_outline(outline, w, h, k, fine);
-            answer
-        }
-        PointAnswer::Refused(_) => answer,
-    }
+    let point = refined_point(net, w, h, k, p, q, out, scratch)?;
+    write_fine_outline(outline, w, h, k, fine);
+    Ok(point)
 }
 
 // The same as `refined_point_outlined`, for the crates above: `short` is whether another output that they were lent is
@@ -62,12 +58,12 @@ pub fn refined_point_outlined_with(
     scratch: &mut [i32],
     fine: &mut [u8],
     search: &mut [u32],
-) -> PointAnswer
+) -> Result<Point, Refusal>
     ensures { OutlinedPointContract net.now w h k outline.now p q short out.old
         scratch.old fine.old search.old (point_outcome result) out.new
         scratch.new fine.new search.new }
 {
-    let refusal = refusal_before(
+    refusal_before(
         net,
         w,
         h,
@@ -80,12 +76,9 @@ pub fn refined_point_outlined_with(
         scratch.len(),
         fine.len(),
         search.len(),
-    );
-    if refusal != 0 {
-        return PointAnswer::Refused(refusal);
-    }
+    )?;
     if !is_connected(outline, w, h, search) {
-        return PointAnswer::Refused(14);
+        return Err(Refusal::NotConnected);
     }
     point_both(net, w, h, k, outline, p, q, out, scratch, fine)
 }
@@ -106,7 +99,7 @@ pub fn refined_point_outlined(
     scratch: &mut [i32],
     fine: &mut [u8],
     search: &mut [u32],
-) -> PointAnswer
+) -> Result<Point, Refusal>
     ensures { OutlinedPointContract net.now w h k outline.now p q false out.old
         scratch.old fine.old search.old (point_outcome result) out.new
         scratch.new fine.new search.new }

@@ -3,5 +3,6 @@
 
 mod places;
 
-// For the crates above. `place_refusal` has no precondition, and where it is 0, callers have those of the others.
+// For the crates above. `place_refusal` has no precondition, and where it refuses nothing, callers have those of the
+// others.
 pub use places::{Located, Ordered, locate, place_refusal, put_in_order};

@@ -1,11 +1,12 @@
 // Places in 1,024ths of an edge: the chosen triangle, the shares of its corners, and their order.
 ghost use Rattle.std.specs.Prelude.{◌≡◌, false, ◌-◌, ◌*◌, ◌≤◌};
 ghost use Rattle.net.specs.Refusals.{bad_size};
+ghost use Rattle.net.specs.Results.{refused};
 ghost use Rattle.places.specs.Places.{cell, order_of};
 ghost use Rattle.places.specs.Refusals.{no_place};
 ghost use Rattle.places.specs.Located.{shares, Placed, InOrder, place_refusal};
 
-use net::{bad_size, short_net};
+use net::{Refusal, bad_size, short_net};
 
 // A place's cell, the kind of its triangle, and the shares of corners 1, 2, 3.
 #[derive(Clone, Copy)]
@@ -80,20 +81,20 @@ fn no_place(w: usize, h: usize, p: usize, q: usize) -> bool
     }
 }
 
-// The number of the first fault, 1, 6 or 2, or 0.
-pub fn place_refusal(net: &[i32], w: usize, h: usize, p: usize, q: usize) -> u32
-    ensures { result ≡ place_refusal net.now w h p q }
+// The first fault, 1, 6 or 2.
+pub fn place_refusal(net: &[i32], w: usize, h: usize, p: usize, q: usize) -> Result<(), Refusal>
+    ensures { refused result ≡ place_refusal net.now w h p q }
 {
     if bad_size(w, h) {
-        return 1;
+        return Err(Refusal::Size);
     }
     if no_place(w, h, p, q) {
-        return 6;
+        return Err(Refusal::Place);
     }
     if short_net(net, w, h) {
-        return 2;
+        return Err(Refusal::Short);
     }
-    0
+    Ok(())
 }
 
 // Shares a ≥ b ≥ d of the corners p, q, t, with document 01's A, B and G. For `put_in_order`.

@@ -16,10 +16,10 @@ use Rattle.words.specs.Answers.{answer}
 use Rattle.words.proofs.WordLaws.{same_first}
 use Rattle.reader.specs.Refusals.{side_faults, number_faults, point_faults}
 
--- ---- an answer that was matched
+-- ---- what a call answered
 
 module _ (fs : List Fault) where
-  -- no fault is there, and the value is the one asked for
+  -- a word is there, no fault of it, and the value is the one asked for
   pub parsed : (v : ℕ) {p : ℕ} → Numbered fs → ◌≡◌ {A = ℕ × List ℕ} (0, p ∷ []) (answer (first_fault fs) (v ∷ [])) →
       Clear fs × (p ≡ v)
   parsed v {p} k e =
@@ -35,13 +35,13 @@ module _ (fs : List Fault) where
       let there = not_accepted (first_fault fs) (v ∷ values) (omega arith) e in
       (outcome ∙ fault_before fs gs there, λ z. there (sym outcome ∙ z))
 
-  -- ---- a refusal number
+  -- ---- a refusal, and none
 
   pub refuses : (gs : List Fault) {n : ℕ} → n ≡ first_fault fs → (n ≡ 0 → ⊥) → n ≡ first_fault (fs ++ gs)
   refuses gs e k = e ∙ fault_before fs gs (λ z. k (e ∙ z))
 
-  pub passes : {n : ℕ} → Numbered fs → n ≡ first_fault fs → n ≡ 0 → Clear fs
-  passes k e z = none_clear fs k (sym e ∙ z)
+  pub passes : Numbered fs → 0 ≡ first_fault fs → Clear fs
+  passes k e = none_clear fs k (sym e)
 
 -- ---- the faults have numbers
 

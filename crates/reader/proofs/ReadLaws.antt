@@ -1,21 +1,19 @@
 -- What follows from the reader's faults: of the first two words, of the rest, and of the whole file.
-use mathlib.Core.Path.{◌≡◌, sym, ◌∙◌}
+use mathlib.Core.Path.{◌≡◌, sym}
 use mathlib.Core.Bool.{Bool, false, ◌||◌}
-use mathlib.Core.List.{List, [], ◌∷◌}
+use mathlib.Core.List.{List}
 use Prim.Native.Nat.{ℕ, zero, suc, ◌+◌, ◌*◌, ◌≤◌}
 use native.Mathlib.Omega.{arith}
 use lib.Dec.{lit<}
-use lib.IntN.{ℤ}
 use lib.ListN.{length, drop, length-drop}
 use borrow.Author.Tests.{ltb-false}
-use Rattle.exact.specs.Filling.{over, runs}
+use Rattle.exact.specs.Filling.{runs}
 use Rattle.net.specs.Net.{numbers}
-use Rattle.net.specs.Refusals.{first_fault, bad_side, bad_size}
-use Rattle.net.proofs.Faults.{Clear, Numbered, none_clear, clear_parts, clear_run, fault_after, numbered_append, numbered_runs, answered, not_accepted, accepted_answer, refused_answer, when_accepted, when_refused, or_no, or_none}
-use Rattle.words.specs.NetFile.{points, file_width, file_height, file_numbers, from_point, head_size, point_size}
+use Rattle.net.specs.Refusals.{bad_side, bad_size}
+use Rattle.net.proofs.Faults.{Clear, Numbered, none_clear, clear_parts, clear_run, numbered_append, numbered_runs, or_no, or_none}
+use Rattle.words.specs.NetFile.{points, file_width, file_height, from_point, head_size, point_size}
 use Rattle.reader.specs.Refusals.{point_faults, end_faults, head_faults, body_faults, read_faults, read_refusal, short_for}
-use Rattle.reader.specs.Answers.{head_answer, read_answer_with, read_net_with}
-use Rattle.reader.proofs.Parsing.{refused, point_numbered, next_begins}
+use Rattle.reader.proofs.Parsing.{point_numbered, next_begins}
 
 -- ---- the faults have numbers
 
@@ -79,52 +77,3 @@ points_there file zero h k = h
 points_there file (suc n) h k =
     let last = next_begins file n (clear_run (suc n) (λ i. point_faults (from_point file i)) k n (omega arith)) in
     omega (arith, last)
-
--- ---- what the reader answers, and what it leaves in the lent net
-
-module _ (file : List ℕ) (short : Bool) where
-  abbrev body : ℕ
-  body = points (file_width file) (file_height file)
-
-  abbrev sides : List ℕ
-  sides = file_width file ∷ file_height file ∷ []
-
-  -- the first two words were answered
-  pub head_found : {w h : ℕ} → ◌≡◌ {A = ℕ × List ℕ} (0, w ∷ h ∷ []) (head_answer file short) →
-      Clear (head_faults file short) × (◌≡◌ {A = List ℕ} (w ∷ h ∷ []) sides)
-  head_found e =
-      let q = answered (first_fault (head_faults file short)) sides e in
-      (none_clear (head_faults file short) (head_numbered file short) q.0, q.1)
-
-  -- or refused
-  pub head_refused : {n : ℕ} → ◌≡◌ {A = ℕ × List ℕ} (n, []) (head_answer file short) →
-      ◌≡◌ {A = ℕ × List ℕ} (n, []) (read_answer_with file short)
-  head_refused e =
-      let q = refused (head_faults file short) (body_faults file body) (file_width file) (file_height file ∷ []) e in
-      refused_answer (read_refusal file short) sides q.0 q.1
-
-  -- the rest was refused
-  pub body_refused : {n : ℕ} → Clear (head_faults file short) → n ≡ first_fault (body_faults file body) → (n ≡ 0 → ⊥) →
-      ◌≡◌ {A = ℕ × List ℕ} (n, []) (read_answer_with file short)
-  body_refused k e there =
-      refused_answer (read_refusal file short) sides
-      (e ∙ fault_after (head_faults file short) (body_faults file body) k) there
-
-  -- or there is no fault
-  pub file_accepted : {values : List ℕ} → Clear (head_faults file short) → first_fault (body_faults file body) ≡ 0 →
-      values ≡ sides →
-      ◌≡◌ {A = ℕ × List ℕ} (0, values) (read_answer_with file short)
-  file_accepted k z v =
-      accepted_answer (read_refusal file short) sides
-      (sym (fault_after (head_faults file short) (body_faults file body) k) ∙ z) v
-
-  -- what the answer leaves in the lent net
-  pub net_kept : {n : ℕ} (net : List ℤ) → ◌≡◌ {A = ℕ × List ℕ} (n, []) (read_answer_with file short) →
-      net ≡ read_net_with file short net
-  net_kept net e =
-      when_refused (read_refusal file short) (over (file_numbers file) net) net
-      (not_accepted (read_refusal file short) sides (lit< tt) e)
-
-  pub net_read_lem : {l : List ℤ} (net : List ℤ) → read_refusal file short ≡ 0 → l ≡ over (file_numbers file) net →
-      l ≡ read_net_with file short net
-  net_read_lem net none e = e ∙ when_accepted (read_refusal file short) (over (file_numbers file) net) net none

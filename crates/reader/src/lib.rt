@@ -1,11 +1,9 @@
 // The net file's reader.
 #![tactic(auto)]
 
-mod answers;
 mod reading;
 
 // The call of document 01: no preconditions.
-pub use answers::ReadAnswer;
 pub use reading::read;
 
 // For the crates above, whose callers lend one output more or have more to refuse: no preconditions either.

@@ -1,17 +1,12 @@
--- Document 01's number of each case of the answer, and what the calls answer and leave in lent memory.
-use Rattle.std.specs.Prelude.{◌≡◌, refl, Bool, true, false, cond, List, [], ◌∷◌, ◌++◌, ℕ, ℤ, pos, length, replicate}
+-- What the calls answer and leave in lent memory.
+use Rattle.std.specs.Prelude.{◌≡◌, refl, Bool, true, false, cond, List, [], ◌∷◌, ◌++◌, ℕ, ℤ, pos, length, replicate, Ok, Err}
 use Rattle.exact.specs.Filling.{over, runs, UnchangedFrom}
 use Rattle.net.specs.Net.{numbers, control_point, control_triangle, grid, squares}
 use Rattle.net.specs.Refusals.{net_beyond, accepted, output_after}
+use Rattle.net.specs.Results.{call_outcome}
+use Rattle.net.specs.declared.refusals.Refusal.TheVariants as refusal
 use Rattle.steps.specs.RefinedNet.{stored, refined_net, scratch_need}
 use Rattle.refine.specs.Refusals.{too_short, refine_refusal}
-use Rattle.refine.specs.declared.answers.RefineAnswer.{RefineAnswer}
-use Rattle.refine.specs.declared.answers.RefineAnswer.TheVariants as answer
-
--- document 01's number of an answer, 0 where nothing is refused, and whether the call was carried out
-abbrev pub refine_outcome : RefineAnswer → ℕ × Bool
-refine_outcome answer.Done = (0, true)
-refine_outcome (answer.Refused n) = (n, false)
 
 -- the first fault of refining into a lent output and with a lent scratch
 abbrev pub refusal_of : List ℤ → ℕ → ℕ → ℕ → List ℤ → List ℤ → ℕ
@@ -34,10 +29,12 @@ abbrev pub RefineScratch : List ℤ → ℕ → ℕ → ℕ → List ℤ → Lis
 RefineScratch net w h k out scratch after =
     UnchangedFrom (free_scratch (refusal_of net w h k out scratch) k w h) scratch after
 
--- worked cases: outcomes of answers; the scratch that two steps of 2 by 2 leave free, a refusal and one step; the
+-- worked cases: outcomes of results; the scratch that two steps of 2 by 2 leave free, a refusal and one step; the
 -- lengths of the output and the scratch that two steps need, not exchanged; and, of the net of 2 by 3 whose numbers are
 -- the squares, no step with room for a number more, and refused
-outcomes : (refine_outcome answer.Done ≡ (0, true)) × (refine_outcome (answer.Refused 4) ≡ (4, false))
+outcomes :
+    (call_outcome {A = Unit {0}} (Ok tt) ≡ (0, true))
+    × (call_outcome {A = Unit {0}} (Err refusal.Depth) ≡ (4, false))
 outcomes = (refl, refl)
 
 free : (free_scratch 0 2 2 2 ≡ numbers 3 3) × (free_scratch 5 2 2 2 ≡ 0) × (free_scratch 0 1 2 2 ≡ 0)

@@ -2,10 +2,11 @@
 // preconditions of the inner functions, and `refine` and `refined_point` that of `net_refusal`.
 ghost use Rattle.std.specs.Prelude.{◌≡◌, false, ◌||◌, ltb};
 ghost use Rattle.net.specs.Refusals.{first_fault, bad_size};
+ghost use Rattle.net.specs.Results.{refused};
 ghost use Rattle.steps.specs.RefinedNet.{numbers_after};
 ghost use Rattle.refine.specs.Refusals.{too_deep, too_short, size_faults, net_faults};
 
-use net::{STRIDE, bad_size, net_beyond, short_net};
+use net::{Refusal, STRIDE, bad_size, net_beyond, short_net};
 use steps::side_after;
 
 // Whether k is above 6 or a refined side above 1,025: k first, before a side is doubled k times.
@@ -22,17 +23,17 @@ fn too_deep(w: usize, h: usize, k: usize) -> bool
     1025 < side_after(h, k)
 }
 
-// The first of 1 and 4, or 0.
-pub fn size_refusal(w: usize, h: usize, k: usize) -> u32
-    ensures { result ≡ first_fault (size_faults w h k) }
+// The first of 1 and 4.
+pub fn size_refusal(w: usize, h: usize, k: usize) -> Result<(), Refusal>
+    ensures { refused result ≡ first_fault (size_faults w h k) }
 {
     if bad_size(w, h) {
-        return 1;
+        return Err(Refusal::Size);
     }
     if too_deep(w, h, k) {
-        return 4;
+        return Err(Refusal::Depth);
     }
-    0
+    Ok(())
 }
 
 // Whether a slice of so many numbers is shorter than the net after k steps.
@@ -58,7 +59,7 @@ pub fn too_short(w: usize, h: usize, k: usize, room: usize, scratch: usize) -> b
     shorter_than(scratch, w, h, k - 1)
 }
 
-// The first of 2, 5 and 3, or 0; `short` is whether another output is too short. For `refine` and `refined_point`,
+// The first of 2, 5 and 3; `short` is whether another output is too short. For `refine` and `refined_point`,
 // which have refused a size and a k by 1 and 4 first.
 pub fn net_refusal(
     net: &[i32],
@@ -68,21 +69,18 @@ pub fn net_refusal(
     short: bool,
     room: usize,
     scratch: usize,
-) -> u32
+) -> Result<(), Refusal>
     requires { (bad_size w h ≡ false) × (too_deep w h k ≡ false) }
-    ensures { result ≡ first_fault (net_faults net.now w h (short || too_short w h k room scratch)) }
+    ensures { refused result ≡ first_fault (net_faults net.now w h (short || too_short w h k room scratch)) }
 {
     if short_net(net, w, h) {
-        return 2;
+        return Err(Refusal::Short);
     }
-    if short {
-        return 5;
-    }
-    if too_short(w, h, k, room, scratch) {
-        return 5;
+    if short || too_short(w, h, k, room, scratch) {
+        return Err(Refusal::Room);
     }
     if net_beyond(net, w, h) {
-        return 3;
+        return Err(Refusal::Range);
     }
-    0
+    Ok(())
 }

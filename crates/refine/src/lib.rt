@@ -1,12 +1,10 @@
 // Refining a net by k steps.
 #![tactic(auto)]
 
-mod answers;
 mod depth;
 mod refining;
 
 // The call of document 01: no preconditions.
-pub use answers::RefineAnswer;
 pub use refining::refine;
 
 // For the crates above, which have refused a size and a k by 1 and 4 before the first and the last.

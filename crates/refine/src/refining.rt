@@ -1,20 +1,25 @@
 // Refining by k steps: nothing is written before it is known that nothing is refused.
 ghost use Rattle.std.specs.Prelude.{◌≡◌};
+ghost use Rattle.net.specs.Results.{refused, call_outcome};
 ghost use Rattle.refine.specs.Refusals.{too_short, refine_refusal};
-ghost use Rattle.refine.specs.Answers.{refine_outcome, refine_answer, refine_output, RefineScratch};
+ghost use Rattle.refine.specs.Answers.{refine_answer, refine_output, RefineScratch};
 
-use crate::answers::RefineAnswer;
 use crate::depth::{net_refusal, size_refusal};
+use net::Refusal;
 use steps::refine_steps;
 
-// The number of the first fault, 1, 4, 2, 5 or 3, or 0 where there is none.
-fn refusal_of(net: &[i32], w: usize, h: usize, k: usize, room: usize, scratch: usize) -> u32
-    ensures { result ≡ refine_refusal net.now w h k (too_short w h k room scratch) }
+// The first fault, 1, 4, 2, 5 or 3.
+fn refusal_of(
+    net: &[i32],
+    w: usize,
+    h: usize,
+    k: usize,
+    room: usize,
+    scratch: usize,
+) -> Result<(), Refusal>
+    ensures { refused result ≡ refine_refusal net.now w h k (too_short w h k room scratch) }
 {
-    let refusal = size_refusal(w, h, k);
-    if refusal != 0 {
-        return refusal;
-    }
+    size_refusal(w, h, k)?;
     net_refusal(net, w, h, k, false, room, scratch)
 }
 
@@ -28,19 +33,15 @@ pub fn refine(
     k: usize,
     out: &mut [i32],
     scratch: &mut [i32],
-) -> RefineAnswer
-    ensures result_value { refine_outcome result
+) -> Result<(), Refusal>
+    ensures result_value { call_outcome result
         ≡ refine_answer net.now w h k out.old scratch.old }
     ensures out_after { out.new
         ≡ refine_output net.now w h k out.old scratch.old }
     ensures refine_scratch { RefineScratch net.now w h k out.old scratch.old
         scratch.new }
 {
-    let refusal = refusal_of(net, w, h, k, out.len(), scratch.len());
-    if refusal == 0 {
-        refine_steps(net, w, h, k, out, scratch);
-        RefineAnswer::Done
-    } else {
-        RefineAnswer::Refused(refusal)
-    }
+    refusal_of(net, w, h, k, out.len(), scratch.len())?;
+    refine_steps(net, w, h, k, out, scratch);
+    Ok(())
 }

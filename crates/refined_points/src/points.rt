@@ -1,14 +1,16 @@
 // Refining and then a surface point, in one go: demand 3, held to by the code itself.
 ghost use Rattle.std.specs.Prelude.{◌≡◌, false, ◌||◌};
 ghost use Rattle.net.specs.Refusals.{bad_size};
+ghost use Rattle.net.specs.Results.{refused};
 ghost use Rattle.surface.specs.Answers.{point_outcome};
 ghost use Rattle.refine.specs.Refusals.{too_deep, too_short};
 ghost use Rattle.refined_points.specs.Refusals.{off_grid, refined_point_refusal};
 ghost use Rattle.refined_points.specs.Contract.{RefinedPointContract};
 
+use net::Refusal;
 use refine::{net_refusal, size_refusal};
 use steps::{refine_steps, side_after};
-use surface::{PointAnswer, surface_point};
+use surface::{Point, surface_point};
 
 // Whether place (p, q) is off the refined grid. For the crates above too, which have refused a size and a k by 1 and 4.
 pub fn off_grid(w: usize, h: usize, k: usize, p: usize, q: usize) -> bool
@@ -21,7 +23,7 @@ pub fn off_grid(w: usize, h: usize, k: usize, p: usize, q: usize) -> bool
     1024 * (side_after(h, k) - 1) < q
 }
 
-// The number of the first fault, 1, 4, 6, 2, 5 or 3, or 0 where there is none.
+// The first fault, 1, 4, 6, 2, 5 or 3.
 fn refusal_at(
     net: &[i32],
     w: usize,
@@ -32,15 +34,12 @@ fn refusal_at(
     short: bool,
     room: usize,
     scratch: usize,
-) -> u32
-    ensures { result ≡ refined_point_refusal net.now w h k p q (short || too_short w h k room scratch) }
+) -> Result<(), Refusal>
+    ensures { refused result ≡ refined_point_refusal net.now w h k p q (short || too_short w h k room scratch) }
 {
-    let refusal = size_refusal(w, h, k);
-    if refusal != 0 {
-        return refusal;
-    }
+    size_refusal(w, h, k)?;
     if off_grid(w, h, k, p, q) {
-        return 6;
+        return Err(Refusal::Place);
     }
     net_refusal(net, w, h, k, short, room, scratch)
 }
@@ -57,14 +56,11 @@ pub fn refined_point_with(
     short: bool,
     out: &mut [i32],
     scratch: &mut [i32],
-) -> PointAnswer
+) -> Result<Point, Refusal>
     ensures { RefinedPointContract net.now w h k p q short out.old scratch.old
         (point_outcome result) out.new scratch.new }
 {
-    let refusal = refusal_at(net, w, h, k, p, q, short, out.len(), scratch.len());
-    if refusal != 0 {
-        return PointAnswer::Refused(refusal);
-    }
+    refusal_at(net, w, h, k, p, q, short, out.len(), scratch.len())?;
     refine_steps(net, w, h, k, out, scratch);
     let m = side_after(w, k);
     let n = side_after(h, k);
@@ -84,7 +80,7 @@ pub fn refined_point(
     q: usize,
     out: &mut [i32],
     scratch: &mut [i32],
-) -> PointAnswer
+) -> Result<Point, Refusal>
     ensures { RefinedPointContract net.now w h k p q false out.old scratch.old
         (point_outcome result) out.new scratch.new }
 {

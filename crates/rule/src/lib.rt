@@ -8,4 +8,4 @@ mod rule;
 pub use rule::refined_triangle;
 
 // For the steps, which go by our table.
-pub use reduced::{kept_triangle, triangle_along1, triangle_along2, triangle_along3};
+pub use reduced::{edge_triangle, kept_triangle};

@@ -1,7 +1,7 @@
-// The rule by our table, each kind of vertices by a function of its own. A kept row's weights are even and an edge
-// row's are multiples of 3, so the quotients are over 6 and over 4, of numbers in the net range. The steps call each
-// function at one place: then the compiler writes it out there, with the table's rows as literals.
-ghost use Rattle.std.specs.Prelude.{◌≡◌, [], ◌∷◌, map, ◌<◌, pos};
+// The rule by our table: kept vertices by one function, those on edges by one for each kind. A kept row's weights are
+// even and an edge row's are multiples of 3, so the quotients are over 6 and over 4, of numbers in the net range. The
+// steps call each kind's at one place: then the compiler writes it out there, with the table's rows as literals.
+ghost use Rattle.std.specs.Prelude.{◌≡◌, [], ◌∷◌, map, ◌<◌, ◌≤◌, pos};
 ghost use Rattle.exact.specs.Rounding.{rounded};
 ghost use Rattle.exact.specs.WeightedSum.{weighted_sum, Within};
 ghost use Rattle.net.specs.Net.{entry};
@@ -10,7 +10,7 @@ ghost use Rattle.subdivision.specs.WeightTable.{six, weights, refined_triangle};
 ghost use Rattle.rule.specs.Reduced.{reduced_row, Reducible};
 
 use crate::rule::values_at;
-use exact::{round_even_narrow, weighted_sum6};
+use exact::{round_even_narrow, weighted_sum};
 use subdivision::WEIGHTS;
 
 // The weights of a row over f.
@@ -33,7 +33,7 @@ fn reduced_number(row: [u8; 6], f: u8, half: u32, values: [i32; 6]) -> i32
     requires { Reducible row f half × Within net_limit values }
     ensures { result ≡ rounded (weighted_sum (map pos row) values) 12 }
 {
-    let sum = weighted_sum6(reduced(row, f), values);
+    let sum = weighted_sum(reduced(row, f), values);
     round_even_narrow(sum, half, 16777216)
 }
 
@@ -61,34 +61,12 @@ pub fn kept_triangle(a: [[i32; 3]; 3]) -> [[i32; 3]; 3]
     [c1, c2, c3]
 }
 
-// Those of the vertices that halve an edge along e1, e2, e3, from A and B, its two ends.
-pub fn triangle_along1(a: [[i32; 3]; 3], b: [[i32; 3]; 3]) -> [[i32; 3]; 3]
-    requires { ControlsWithin net_limit a × ControlsWithin net_limit b }
-    ensures { result ≡ refined_triangle weights 1 a b }
+// That of a vertex that halves an edge, along e1, e2 or e3 as KIND is 1, 2 or 3, from A and B, the edge's two ends.
+pub fn edge_triangle<const KIND: usize>(a: [[i32; 3]; 3], b: [[i32; 3]; 3]) -> [[i32; 3]; 3]
+    requires { (1 ≤ KIND) × (KIND < 4) × ControlsWithin net_limit a × ControlsWithin net_limit b }
+    ensures { result ≡ refined_triangle weights KIND a b }
 {
-    let rows = WEIGHTS[1];
-    let c1 = reduced_point(rows[0], 3, 2, a, b);
-    let c2 = reduced_point(rows[1], 3, 2, a, b);
-    let c3 = reduced_point(rows[2], 3, 2, a, b);
-    [c1, c2, c3]
-}
-
-pub fn triangle_along2(a: [[i32; 3]; 3], b: [[i32; 3]; 3]) -> [[i32; 3]; 3]
-    requires { ControlsWithin net_limit a × ControlsWithin net_limit b }
-    ensures { result ≡ refined_triangle weights 2 a b }
-{
-    let rows = WEIGHTS[2];
-    let c1 = reduced_point(rows[0], 3, 2, a, b);
-    let c2 = reduced_point(rows[1], 3, 2, a, b);
-    let c3 = reduced_point(rows[2], 3, 2, a, b);
-    [c1, c2, c3]
-}
-
-pub fn triangle_along3(a: [[i32; 3]; 3], b: [[i32; 3]; 3]) -> [[i32; 3]; 3]
-    requires { ControlsWithin net_limit a × ControlsWithin net_limit b }
-    ensures { result ≡ refined_triangle weights 3 a b }
-{
-    let rows = WEIGHTS[3];
+    let rows = WEIGHTS[KIND];
     let c1 = reduced_point(rows[0], 3, 2, a, b);
     let c2 = reduced_point(rows[1], 3, 2, a, b);
     let c3 = reduced_point(rows[2], 3, 2, a, b);

@@ -6,9 +6,9 @@ ghost use Rattle.exact.specs.WeightedSum.{weighted_sum};
 ghost use Rattle.net.specs.Net.{entry};
 ghost use Rattle.subdivision.specs.WeightTable.{six, good_row, passes, refined_triangle};
 
-use exact::weighted_mean6;
+use exact::weighted_mean;
 
-// The weights of a row as `weighted_mean6` takes them.
+// The weights of a row as `weighted_mean` takes them.
 fn widened(row: [u8; 6]) -> [i64; 6]
     ensures { result ≡ map pos row }
 {
@@ -28,7 +28,7 @@ fn refined_number(row: [u8; 6], values: [i32; 6]) -> i32
     requires { good_row row ≡ true }
     ensures { result ≡ rounded (weighted_sum (map pos row) values) 12 }
 {
-    weighted_mean6(widened(row), values, 12) as i32
+    weighted_mean(widened(row), values, 12) as i32
 }
 
 // One coordinate of two control triangles, in the order of a row's weights.
@@ -52,8 +52,8 @@ fn refined_point(row: [u8; 6], a: [[i32; 3]; 3], b: [[i32; 3]; 3]) -> [i32; 3]
 }
 
 // The control triangle of a refined vertex of a kind, from the control triangles at the two ends of its edge. For the
-// crates above, which hand in a table that passes the test, as `weight_table` does, and the kind of a vertex; the
-// numbers may be any.
+// crates above, which hand in a table that passes the test, as `weight_table` does, and the kind of a vertex, which is
+// a row of the table; the numbers may be any.
 pub fn refined_triangle(
     table: [[[u8; 6]; 3]; 4],
     kind: usize,

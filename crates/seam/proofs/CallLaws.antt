@@ -1,19 +1,15 @@
 -- The contract of the two points of a seam, from that of each point.
-use mathlib.Core.Path.{◌≡◌, refl, sym, subst, ap, ◌∙◌}
+use mathlib.Core.Path.{◌≡◌, refl, sym, subst, ◌∙◌}
 use mathlib.Core.Bool.{Bool, false, not, ◌||◌}
 use mathlib.Core.List.{List, [], ◌∷◌, ◌++◌}
-use Prim.Native.Nat.{ℕ, ◌*◌, ◌^◌, ◌<◌}
-use native.Mathlib.Omega.{arith}
+use Prim.Native.Nat.{ℕ, ◌*◌, ◌^◌}
 use lib.Dec.{lit<, eqb}
 use lib.IntN.{ℤ}
 use lib.ListN.{length}
 use borrow.Author.Tests.{eqb-true, not-false}
 use Rattle.exact.specs.Filling.{UnchangedFrom}
 use Rattle.net.specs.Refusals.{Fault, first_fault, bad_size, output_after}
-use Rattle.net.proofs.Faults.{Clear, none_clear, clear_none, clear_parts, fault_before, fault_after, or_none, answered, not_accepted, accepted_answer, refused_answer}
-use Rattle.surface.specs.Answers.{point_outcome}
-use Rattle.surface.specs.declared.answers.PointAnswer.{PointAnswer}
-use Rattle.surface.specs.declared.answers.PointAnswer.TheVariants as point
+use Rattle.net.proofs.Faults.{Clear, none_clear, clear_none, clear_parts, fault_after, or_none, answered, not_accepted, accepted_answer, refused_answer}
 use Rattle.steps.specs.RefinedNet.{refined_net}
 use Rattle.refine.specs.Refusals.{too_deep, too_short, size_faults, net_faults}
 use Rattle.refine.specs.Answers.{free_scratch}
@@ -24,9 +20,8 @@ use Rattle.refined_points.specs.DemandThree.{Claimed}
 use Rattle.refined_points.specs.Contract.{RefinedPointContract}
 use Rattle.seam.specs.Seam.{SamePlace}
 use Rattle.seam.specs.Refusals.{other_place, places_faults}
-use Rattle.seam.specs.Answers.{seam_outcome, seam_refusal_at, seam_points, seam_answer, SeamHolds}
-use Rattle.seam.specs.Contract.{joined, SeamLeft}
-use Rattle.seam.specs.declared.answers.SeamAnswer.{SeamAnswer}
+use Rattle.seam.specs.Answers.{seam_refusal_at, seam_points, seam_answer, SeamHolds}
+use Rattle.seam.specs.Contract.{SeamLeft}
 use Rattle.seam.proofs.Seam.{same_point, seam_claimed}
 
 -- ---- depths and places that 1, 4 and 6 do not refuse
@@ -57,16 +52,6 @@ seam_placed w h k l p q p2 q2 c =
       on2 = others.0;
       same = (eqb-true _ _ (not-false _ same.0), eqb-true _ _ (not-false _ same.1));
     }
-
--- ---- two points as one answer
-
-joined_outcome : (a b : PointAnswer) (xs ys : List ℤ) → 0 < length xs → 0 < length ys → point_outcome a ≡ (0, xs) →
-    point_outcome b ≡ (0, ys) → seam_outcome (joined a b) ≡ (0, xs ++ ys)
-joined_outcome (point.At a) (point.At b) xs ys m n e f = λ t. (0, (e t).1 ++ (f t).1)
-joined_outcome (point.At a) (point.Refused r) xs ys m n e f =
-    absurd (omega (arith, n, ap (λ (o : ℕ × List ℤ). length o.1) f))
-joined_outcome (point.Refused r) b xs ys m n e f =
-    absurd (omega (arith, m, ap (λ (o : ℕ × List ℤ). length o.1) e))
 
 -- ---- the contract
 
@@ -109,14 +94,6 @@ module _ (net : List ℤ) (w h k l p q p2 q2 : ℕ) (other : Bool) (out scratch 
         (record { output = left.0; scratch_free = left.1; output2 = o; scratch_free2 = u }, λ z. absurd (there z)),
       )
 
-  -- by 1, 4 or 6
-  pub places_refused : {n : ℕ} → n ≡ first_fault (places_faults w h k l p q p2 q2) → (n ≡ 0 → ⊥) →
-      Ensured out scratch out2 scratch2 (n, [])
-  places_refused {n} e there =
-      let left2 = left_refused n l w h (refined_net net w h l) out2 scratch2 there in
-      refused_with (e ∙ fault_before (places_faults w h k l p q p2 q2) rest (λ z. there (e ∙ z))) there left2.0
-      left2.1
-
   -- past these the second point, with what the first lacks of room, has the refusals of both
   module _ (clear : Clear (places_faults w h k l p q p2 q2)) (out2' scratch2' : List ℤ) where
     abbrev placed : SeamPlaced w h k l p q p2 q2
@@ -156,33 +133,39 @@ module _ (net : List ℤ) (w h k l p q p2 q2 : ℕ) (other : Bool) (out scratch 
           (size_faults w h k ++ (off_grid w h k p q, 6) ∷ net_faults net w h (too_short w h k (length out) (length scratch)))
           (placed.size, (placed.deep, (placed.on, (c.0, ((rooms none).1, (c.1.1.0, tt))))))
 
-      pub both_answered : (a b : PointAnswer) (out' scratch' : List ℤ) {r : SeamAnswer} →
-          RefinedPointContract net w h k p q false out scratch (point_outcome a) out' scratch' → point_outcome b ≡ (0, xyz) →
-          r ≡ joined a b → Ensured out' scratch' out2' scratch2' (seam_outcome r)
-      both_answered a b out' scratch' {r} first told e =
-          let values = refined_surface_point net w h k p q in
-          let values2 = refined_surface_point net w h l p2 q2 in
-          let at : point_outcome a ≡ (0, values) = first.answer
-          ∙ sym (accepted_answer (refusal_at net w h k p q false out scratch) values first_none refl) in
-          let at2 : ◌≡◌ {A = ℕ × List ℤ} (0, xyz) (0, values2) = λ t. (0, second_known.1 t) in
-          let both : seam_outcome r ≡ (0, values ++ values2) =
-          ap seam_outcome e ∙ joined_outcome a b values values2 (lit< tt) (lit< tt) at (told ∙ at2) in
-          subst (Ensured out' scratch' out2' scratch2') (sym both) (
-            accepted_answer refusal (values ++ values2) none refl,
-            (
-              record {
-                output = first.output ∙ (λ t. output_after (first_none t) (refined_net net w h k) out);
-                scratch_free =
-                    subst (λ (m : ℕ). UnchangedFrom (free_scratch m k w h) scratch scratch') first_none
-                    first.scratch_free;
-                output2 = second.output ∙ (λ t. output_after (second_known.0 t) (refined_net net w h l) out2);
-                scratch_free2 =
-                    subst (λ (m : ℕ). UnchangedFrom (free_scratch m l w h) scratch2 scratch2') second_known.0
-                    second.scratch_free;
-              },
-              λ z. seam_claimed net w h k l p q p2 q2 placed.same
-                  (subst (Claimed net w h k p q) at (first.demand_three first_none))
-                  (subst (Claimed net w h l p2 q2) at2 (second.demand_three second_known.0))
-                  (same_point net w h k l p q p2 q2 placed.same),
-            ),
-          )
+      -- the first point, after which the output and the scratch are these
+      module _ (out' scratch' : List ℤ) where
+        abbrev First : ℕ × List ℤ → Type 0
+        First o = RefinedPointContract net w h k p q false out scratch o out' scratch'
+
+        -- it is refused nothing
+        pub first_answered : {n : ℕ} {values : List ℤ} → First (n, values) → n ≡ 0
+        first_answered first = (λ t. (first.answer t).0) ∙ first_none
+
+        pub both_answered : {abc : List ℤ} → First (0, abc) → Ensured out' scratch' out2' scratch2' (0, abc ++ xyz)
+        both_answered {abc} first =
+            let values = refined_surface_point net w h k p q in
+            let values2 = refined_surface_point net w h l p2 q2 in
+            let at : ◌≡◌ {A = ℕ × List ℤ} (0, abc) (0, values) = first.answer
+            ∙ sym (accepted_answer (refusal_at net w h k p q false out scratch) values first_none refl) in
+            let at2 : ◌≡◌ {A = ℕ × List ℤ} (0, xyz) (0, values2) = λ t. (0, second_known.1 t) in
+            let both : ◌≡◌ {A = ℕ × List ℤ} (0, abc ++ xyz) (0, values ++ values2) = λ t. (0, (at t).1 ++ (at2 t).1) in
+            subst (Ensured out' scratch' out2' scratch2') (sym both) (
+              accepted_answer refusal (values ++ values2) none refl,
+              (
+                record {
+                  output = first.output ∙ (λ t. output_after (first_none t) (refined_net net w h k) out);
+                  scratch_free =
+                      subst (λ (m : ℕ). UnchangedFrom (free_scratch m k w h) scratch scratch') first_none
+                      first.scratch_free;
+                  output2 = second.output ∙ (λ t. output_after (second_known.0 t) (refined_net net w h l) out2);
+                  scratch_free2 =
+                      subst (λ (m : ℕ). UnchangedFrom (free_scratch m l w h) scratch2 scratch2') second_known.0
+                      second.scratch_free;
+                },
+                λ z. seam_claimed net w h k l p q p2 q2 placed.same
+                    (subst (Claimed net w h k p q) at (first.demand_three first_none))
+                    (subst (Claimed net w h l p2 q2) at2 (second.demand_three second_known.0))
+                    (same_point net w h k l p q p2 q2 placed.same),
+              ),
+            )

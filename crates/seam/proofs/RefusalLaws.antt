@@ -1,22 +1,13 @@
--- Refusals of the two points of a seam: those of each depth, and products that do not overflow.
-use mathlib.Core.Path.{◌≡◌, refl}
-use mathlib.Core.Bool.{Bool, true, false, ◌||◌}
-use mathlib.Core.List.{[], ◌∷◌}
+-- Places that 6 does not refuse: the products that compare them do not overflow.
+use mathlib.Core.Path.{◌≡◌}
+use mathlib.Core.Bool.{false}
 use Prim.Native.Nat.{ℕ, ◌*◌, ◌%◌, ◌^◌, ◌≤◌}
 use native.Mathlib.Omega.{arith}
 use lib.Pow.{shl_exact}
-use Rattle.net.specs.Refusals.{first_fault}
 use Rattle.places.proofs.Cells.{on_grid}
 use Rattle.subdivision.specs.Refinement.{side_after}
 use Rattle.steps.specs.Steps.{Depth}
 use Rattle.refined_points.specs.Refusals.{off_grid}
-
--- the first of 1 and 4 is that of the first depth where it is there
-pub first_depth : (b d e : Bool) → (first_fault ((b, 1) ∷ (d, 4) ∷ []) ≡ 0 → ⊥) →
-    first_fault ((b, 1) ∷ (d, 4) ∷ []) ≡ first_fault ((b, 1) ∷ (d || e, 4) ∷ [])
-first_depth true d e there = refl
-first_depth false true e there = refl
-first_depth false false e there = absurd (there refl)
 
 -- a place of the grid after k steps is at most 2^20, and a shift by at most 6 loses nothing of it
 pub grid_small : (w h k p q : ℕ) → Depth w h k → off_grid w h k p q ≡ false → (p ≤ 1048576) × (q ≤ 1048576)

@@ -1,24 +1,26 @@
 -- The number and the six values for each case of the answer, and what the call answers.
-use Rattle.std.specs.Prelude.{◌≡◌, refl, Bool, true, false, cond, ◌||◌, List, [], ◌∷◌, ◌++◌, ℕ, ℤ, pos, negsuc, length, take, drop, replicate}
+use Rattle.std.specs.Prelude.{◌≡◌, refl, Bool, true, false, cond, ◌||◌, List, [], ◌∷◌, ◌++◌, ℕ, ℤ, pos, negsuc, length, take, drop, replicate, Result, Ok, Err}
 use Rattle.exact.specs.Rounding.{rounded, floor_quotient}
 use Rattle.exact.specs.Filling.{runs}
 use Rattle.net.specs.Net.{control_point, control_triangle, grid, squares}
 use Rattle.net.specs.Refusals.{accepted, net_beyond}
+use Rattle.net.specs.Results.{refusal_number}
+use Rattle.net.specs.declared.refusals.Refusal.{Refusal}
+use Rattle.net.specs.declared.refusals.Refusal.TheVariants as refusal
 use Rattle.spline.specs.Spline.{spline}
 use Rattle.surface.specs.SurfacePoint.{coordinate}
+use Rattle.surface.specs.declared.answers.Point.{Point}
 use Rattle.subdivision.specs.Refinement.{exact_refinement, refinement}
 use Rattle.steps.specs.RefinedNet.{stored, refined_net}
 use Rattle.refine.specs.Refusals.{too_short}
 use Rattle.refined_points.specs.Answers.{refined_surface_point}
 use Rattle.seam.specs.Refusals.{seam_refusal}
 use Rattle.seam.specs.Seam.{SeamClaimed}
-use Rattle.seam.specs.declared.answers.SeamAnswer.{SeamAnswer}
-use Rattle.seam.specs.declared.answers.SeamAnswer.TheVariants as seam
 
 -- the number, and x, y, z of the point after k steps and then of the point after l steps; none where it is refused
-abbrev pub seam_outcome : SeamAnswer → ℕ × List ℤ
-seam_outcome (seam.At a b) = (0, a.x ∷ a.y ∷ a.z ∷ b.x ∷ b.y ∷ b.z ∷ [])
-seam_outcome (seam.Refused n) = (n, [])
+abbrev pub seam_outcome : Result (Point × Point) Refusal → ℕ × List ℤ
+seam_outcome (Ok (a, b)) = (0, a.x ∷ a.y ∷ a.z ∷ b.x ∷ b.y ∷ b.z ∷ [])
+seam_outcome (Err r) = (refusal_number r, [])
 
 -- the first fault, where `other` is whether another lent output is too short
 abbrev pub seam_refusal_at : List ℤ → ℕ → ℕ → ℕ → ℕ → ℕ → ℕ → ℕ → ℕ → Bool → List ℤ → List ℤ → List ℤ → List ℤ → ℕ
@@ -45,9 +47,9 @@ SeamHolds net w h k l p q p2 q2 n six = SeamClaimed net w h k l p q p2 q2 (n, ta
 -- after one at the same place, which differ by 1 in each coordinate, and with the depths exchanged; each output too
 -- short by a number, and another output that is too short
 outcomes :
-    (seam_outcome (seam.At (record { x = pos 1; y = pos 2; z = negsuc 2 }) (record { x = pos 4; y = negsuc 4; z = pos 6 }))
+    (seam_outcome (Ok (record { x = pos 1; y = pos 2; z = negsuc 2 }, record { x = pos 4; y = negsuc 4; z = pos 6 }))
     ≡ (0, pos 1 ∷ pos 2 ∷ negsuc 2 ∷ pos 4 ∷ negsuc 4 ∷ pos 6 ∷ []))
-    × (seam_outcome (seam.Refused 4) ≡ (4, []))
+    × (seam_outcome (Err refusal.Depth) ≡ (4, []))
 outcomes = (refl, refl)
 
 abbrev answer_of : ℕ → ℕ → ℕ → ℕ → ℕ → ℕ → Bool → ℕ → ℕ → ℕ × List ℤ

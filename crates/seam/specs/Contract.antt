@@ -1,20 +1,10 @@
--- What the two points of a seam leave in lent memory, and two points as one answer.
+-- What the two points of a seam leave in lent memory.
 use Rattle.std.specs.Prelude.{◌≡◌, List, ℕ, ℤ, pos, replicate}
 use Rattle.exact.specs.Filling.{over, UnchangedFrom}
 use Rattle.net.specs.Net.{squares}
 use Rattle.net.specs.Refusals.{output_after}
-use Rattle.surface.specs.declared.answers.PointAnswer.{PointAnswer}
-use Rattle.surface.specs.declared.answers.PointAnswer.TheVariants as point
 use Rattle.steps.specs.RefinedNet.{refined_net}
 use Rattle.refine.specs.Answers.{free_scratch}
-use Rattle.seam.specs.declared.answers.SeamAnswer.{SeamAnswer}
-use Rattle.seam.specs.declared.answers.SeamAnswer.TheVariants as seam
-
--- two points as one answer, or the number of the first that is refused; no public contract cites it
-abbrev pub joined : PointAnswer → PointAnswer → SeamAnswer
-joined (point.At a) (point.At b) = seam.At a b
-joined (point.At a) (point.Refused n) = seam.Refused n
-joined (point.Refused n) b = seam.Refused n
 
 -- of the refusal, a net, a size, two depths, and the outputs and scratches before the call and after it: the net
 -- refined by k steps in the first output and by l steps in the second, and each scratch free as refining leaves it; or

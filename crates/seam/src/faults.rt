@@ -1,20 +1,19 @@
 // The refusals of the two points of a seam by depths and places. Callers in this file establish the preconditions.
 ghost use Rattle.std.specs.Prelude.{◌≡◌, false, ◌≤◌};
 ghost use Rattle.net.specs.Refusals.{first_fault, bad_size};
+ghost use Rattle.net.specs.Results.{refused};
 ghost use Rattle.refine.specs.Refusals.{too_deep};
 ghost use Rattle.seam.specs.Refusals.{other_place, depth_faults, no_seam_place, places_faults};
 
+use net::Refusal;
 use refine::size_refusal;
 use refined_points::off_grid;
 
-// The first of 1 and 4 of either depth, or 0.
-fn depth_refusal(w: usize, h: usize, k: usize, l: usize) -> u32
-    ensures { result ≡ first_fault (depth_faults w h k l) }
+// The first of 1 and 4 of either depth.
+fn depth_refusal(w: usize, h: usize, k: usize, l: usize) -> Result<(), Refusal>
+    ensures { refused result ≡ first_fault (depth_faults w h k l) }
 {
-    let refusal = size_refusal(w, h, k);
-    if refusal != 0 {
-        return refusal;
-    }
+    size_refusal(w, h, k)?;
     size_refusal(w, h, l)
 }
 
@@ -53,7 +52,7 @@ fn no_seam_place(
     other_place(k, l, p, q, p2, q2)
 }
 
-// The first of 1, 4 and 6, or 0.
+// The first of 1, 4 and 6.
 pub fn places_refusal(
     w: usize,
     h: usize,
@@ -63,15 +62,12 @@ pub fn places_refusal(
     q: usize,
     p2: usize,
     q2: usize,
-) -> u32
-    ensures { result ≡ first_fault (places_faults w h k l p q p2 q2) }
+) -> Result<(), Refusal>
+    ensures { refused result ≡ first_fault (places_faults w h k l p q p2 q2) }
 {
-    let refusal = depth_refusal(w, h, k, l);
-    if refusal != 0 {
-        return refusal;
-    }
+    depth_refusal(w, h, k, l)?;
     if no_seam_place(w, h, k, l, p, q, p2, q2) {
-        return 6;
+        return Err(Refusal::Place);
     }
-    0
+    Ok(())
 }

@@ -6,7 +6,6 @@ mod faults;
 mod points;
 
 // The call: no preconditions.
-pub use answers::SeamAnswer;
 pub use points::seam_points;
 
 // For `ups`, whose callers lend an output for the points: the call has no preconditions either, and where it answers

@@ -1,29 +1,17 @@
 // The two points of a seam: the net refined to two depths, and the surface points of both at the same place.
 ghost use Rattle.std.specs.Prelude.{◌≡◌, false};
 ghost use Rattle.seam.specs.Answers.{seam_outcome, seam_answer, SeamHolds};
-ghost use Rattle.seam.specs.Contract.{joined, SeamLeft};
+ghost use Rattle.seam.specs.Contract.{SeamLeft};
 
-use crate::answers::SeamAnswer;
 use crate::faults::places_refusal;
+use net::Refusal;
 use refine::too_short;
 use refined_points::{refined_point, refined_point_with};
-use surface::PointAnswer;
-
-// The two points as one answer, or the number of the first that is refused.
-fn join(first: PointAnswer, second: PointAnswer) -> SeamAnswer
-    ensures { result ≡ joined first second }
-{
-    match first {
-        PointAnswer::At(a) => match second {
-            PointAnswer::At(b) => SeamAnswer::At(a, b),
-            PointAnswer::Refused(n) => SeamAnswer::Refused(n),
-        },
-        PointAnswer::Refused(n) => SeamAnswer::Refused(n),
-    }
-}
+use surface::Point;
 
 // The same as `seam_points`, for the crates above: `short` is whether another output that they were lent is too short,
-// which is 5 too. The second point, with what the first lacks of room, finds 2, 5 and 3 before anything is written.
+// which is 5 too. The second point, with what the first lacks of room, finds 2, 5 and 3 before anything is written:
+// past it the first is refused nothing.
 pub fn seam_points_with(
     net: &[i32],
     w: usize,
@@ -39,7 +27,7 @@ pub fn seam_points_with(
     scratch: &mut [i32],
     out2: &mut [i32],
     scratch2: &mut [i32],
-) -> SeamAnswer
+) -> Result<(Point, Point), Refusal>
     ensures result_value { seam_outcome result ≡ seam_answer net.now w h k l p q p2 q2 short out.old
         scratch.old out2.old scratch2.old }
     ensures seam_left { SeamLeft (seam_outcome result).0 net.now w h k l out.old scratch.old
@@ -48,19 +36,11 @@ pub fn seam_points_with(
     ensures seam_holds { (seam_outcome result).0 ≡ 0
         → SeamHolds net.now w h k l p q p2 q2 (seam_outcome result).0 (seam_outcome result).1 }
 {
-    let refusal = places_refusal(w, h, k, l, p, q, p2, q2);
-    if refusal != 0 {
-        return SeamAnswer::Refused(refusal);
-    }
+    places_refusal(w, h, k, l, p, q, p2, q2)?;
     let first_short = too_short(w, h, k, out.len(), scratch.len());
-    let second = refined_point_with(net, w, h, l, p2, q2, short | first_short, out2, scratch2);
-    match second {
-        PointAnswer::At(_) => {
-            let first = refined_point(net, w, h, k, p, q, out, scratch);
-            join(first, second)
-        }
-        PointAnswer::Refused(n) => SeamAnswer::Refused(n),
-    }
+    let second = refined_point_with(net, w, h, l, p2, q2, short | first_short, out2, scratch2)?;
+    let first = refined_point(net, w, h, k, p, q, out, scratch)?;
+    Ok((first, second))
 }
 
 // The net refined by k steps over the front of `out` and by l steps over the front of `out2`, and the surface points of
@@ -80,7 +60,7 @@ pub fn seam_points(
     scratch: &mut [i32],
     out2: &mut [i32],
     scratch2: &mut [i32],
-) -> SeamAnswer
+) -> Result<(Point, Point), Refusal>
     ensures result_value { seam_outcome result ≡ seam_answer net.now w h k l p q p2 q2 false out.old
         scratch.old out2.old scratch2.old }
     ensures seam_left { SeamLeft (seam_outcome result).0 net.now w h k l out.old scratch.old

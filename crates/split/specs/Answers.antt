@@ -1,22 +1,18 @@
--- Document 01's number of each case of the answer, and what splitting answers and leaves in lent memory.
-use Rattle.std.specs.Prelude.{◌≡◌, refl, Bool, true, false, ◌||◌, List, [], ◌∷◌, ℕ, ℤ, pos, length, drop, replicate}
+-- What splitting answers and leaves in lent memory.
+use Rattle.std.specs.Prelude.{◌≡◌, refl, Bool, true, false, ◌||◌, List, [], ◌∷◌, ℕ, ℤ, pos, length, drop, replicate, Ok, Err, Result}
 use Rattle.exact.specs.Rounding.{rounded, floor_quotient}
 use Rattle.exact.specs.Filling.{over, runs}
 use Rattle.net.specs.Net.{grid, control_point, control_triangle, squares}
 use Rattle.net.specs.Refusals.{net_beyond, output_after, answer_by}
+use Rattle.net.specs.Results.{call_outcome}
+use Rattle.net.specs.declared.refusals.Refusal.{Refusal}
+use Rattle.net.specs.declared.refusals.Refusal.TheVariants as refusal
 use Rattle.subdivision.specs.Refinement.{refinement, exact_refinement}
 use Rattle.steps.specs.RefinedNet.{stored}
 use Rattle.details.specs.Details.{stored_details}
 use Rattle.coarse.specs.Coarse.{coarsened, coarse_net}
 use Rattle.split.specs.Split.{detail_of, net_details}
 use Rattle.split.specs.Refusals.{outputs_short, split_refusal}
-use Rattle.split.specs.declared.answers.SplitAnswer.{SplitAnswer}
-use Rattle.split.specs.declared.answers.SplitAnswer.TheVariants as answer
-
--- document 01's number of an answer, 0 where nothing is refused, and whether the call was carried out
-abbrev pub split_outcome : SplitAnswer → ℕ × Bool
-split_outcome answer.Done = (0, true)
-split_outcome (answer.Refused n) = (n, false)
 
 -- the first fault of splitting into two lent outputs; `short` is whether another lent output is too short, which counts
 -- for 5
@@ -36,14 +32,16 @@ split_details refusal net w h details = output_after refusal (net_details net w 
 
 -- what splitting promises, of the net, its size, whether another output is too short, the outputs before and after, and
 -- the answer
-pub record SplitContract (net : List ℤ) (w h : ℕ) (short : Bool) (coarse details : List ℤ) (r : SplitAnswer) (coarse' details' : List ℤ) : Type 0 where
-  pub answer : split_outcome r ≡ answer_by (split_refusal_with net w h short coarse details)
+pub record SplitContract (net : List ℤ) (w h : ℕ) (short : Bool) (coarse details : List ℤ) (r : Result (Unit {0}) Refusal) (coarse' details' : List ℤ) : Type 0 where
+  pub answer : call_outcome r ≡ answer_by (split_refusal_with net w h short coarse details)
   pub coarse_after : coarse' ≡ split_coarse (split_refusal_with net w h short coarse details) net w h coarse
   pub details_after : details' ≡ split_details (split_refusal_with net w h short coarse details) net w h details
 
--- ---- worked cases: outcomes of answers; and, of the net of 3 by 5 whose numbers are the squares, what stands after
+-- ---- worked cases: outcomes of results; and, of the net of 3 by 5 whose numbers are the squares, what stands after
 -- the coarse net and the details, and refused
-outcomes : (split_outcome answer.Done ≡ (0, true)) × (split_outcome (answer.Refused 11) ≡ (11, false))
+outcomes :
+    (call_outcome {A = Unit {0}} (Ok tt) ≡ (0, true))
+    × (call_outcome {A = Unit {0}} (Err refusal.ResultRange) ≡ (11, false))
 outcomes = (refl, refl)
 
 abbrev sevens : ℕ → List ℤ

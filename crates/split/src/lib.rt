@@ -1,12 +1,10 @@
 // Splitting a net into a coarse net and details.
 #![tactic(auto)]
 
-mod answers;
 mod detail;
 mod splitting;
 
 // The call of document 01: no preconditions.
-pub use answers::SplitAnswer;
 pub use splitting::split;
 
 // The same with another lent output of the caller's, which counts for 5, and the refusals that look at the size alone;

@@ -2,27 +2,27 @@
 ghost use Rattle.std.specs.Prelude.{◌≡◌, false, ◌||◌, [], ◌∷◌, take};
 ghost use Rattle.net.specs.Net.{numbers};
 ghost use Rattle.net.specs.Refusals.{first_fault, bad_size, short_net, any_outside, net_beyond};
+ghost use Rattle.net.specs.Results.{refused};
 ghost use Rattle.coarse.specs.Coarse.{coarse_beyond};
 ghost use Rattle.split.specs.Refusals.{outputs_short, odd_faults, split_faults, split_refusal};
 ghost use Rattle.split.specs.Answers.{SplitContract};
 
-use crate::answers::SplitAnswer;
 use crate::detail::store_differences;
 use coarse::{coarse_beyond, store_coarse};
-use details::{DETAIL_STRIDE, even_size, first_outside};
-use net::{STRIDE, bad_size, net_beyond, short_net};
+use details::{DETAIL_STRIDE, even_size};
+use net::{Refusal, STRIDE, any_outside, bad_size, net_beyond, short_net};
 
-// The first of 1 and 10, or 0.
-pub fn odd_refusal(w: usize, h: usize) -> u32
-    ensures { result ≡ first_fault (odd_faults w h) }
+// The first of 1 and 10.
+pub fn odd_refusal(w: usize, h: usize) -> Result<(), Refusal>
+    ensures { refused result ≡ first_fault (odd_faults w h) }
 {
     if bad_size(w, h) {
-        return 1;
+        return Err(Refusal::Size);
     }
     if even_size(w, h) {
-        return 10;
+        return Err(Refusal::Even);
     }
-    0
+    Ok(())
 }
 
 // Whether the output for the coarse net or the one for the details, of these lengths, is too short.
@@ -42,55 +42,57 @@ fn any_large(net: &[i32], w: usize, h: usize) -> bool
     requires { (bad_size w h ≡ false) × (short_net net.now w h ≡ false) }
     ensures { result ≡ any_outside 7190235 (take (numbers w h) net.now) }
 {
-    first_outside(net, STRIDE * (w * h), 7190235)
+    let n = STRIDE * (w * h);
+    any_outside(&net[..n], 7190235)
 }
 
-// The first of 3 and 11, or 0.
-fn range_refusal(net: &[i32], w: usize, h: usize) -> u32
+// The first of 3 and 11.
+fn range_refusal(net: &[i32], w: usize, h: usize) -> Result<(), Refusal>
     requires { (bad_size w h ≡ false) × (short_net net.now w h ≡ false) }
-    ensures { result
+    ensures { refused result
         ≡ first_fault ((net_beyond net.now w h, 3) ∷ (coarse_beyond net.now w h, 11) ∷ []) }
 {
     if net_beyond(net, w, h) {
-        return 3;
+        return Err(Refusal::Range);
     }
     if coarse_beyond(net, w, h) {
-        return 11;
+        return Err(Refusal::ResultRange);
     }
-    0
+    Ok(())
 }
 
-// The first of 2, 5, 3 and 11, or 0; `short` is whether a lent output is too short. The test of the numbers' sizes
-// settles 3 and 11 for most nets.
-fn net_refusal(net: &[i32], w: usize, h: usize, short: bool) -> u32
+// The first of 2, 5, 3 and 11; `short` is whether a lent output is too short. The test of the numbers' sizes settles 3
+// and 11 for most nets.
+fn net_refusal(net: &[i32], w: usize, h: usize, short: bool) -> Result<(), Refusal>
     requires { bad_size w h ≡ false }
-    ensures { result ≡ first_fault (split_faults net.now w h short) }
+    ensures { refused result ≡ first_fault (split_faults net.now w h short) }
 {
     if short_net(net, w, h) {
-        return 2;
+        return Err(Refusal::Short);
     }
     if short {
-        return 5;
+        return Err(Refusal::Room);
     }
     if any_large(net, w, h) {
         return range_refusal(net, w, h);
     }
-    0
+    Ok(())
 }
 
-// The number of the first fault, 1, 10, 2, 5, 3 or 11, or 0 where there is none, of outputs of these
-// lengths; `short` is whether another lent output is too short.
-fn split_refusal(net: &[i32], w: usize, h: usize, short: bool, coarse: usize, details: usize) -> u32
-    ensures { result ≡ split_refusal net.now w h (short || outputs_short w h coarse details) }
+// The first fault, 1, 10, 2, 5, 3 or 11, of outputs of these lengths; `short` is whether another lent output is too
+// short.
+fn split_refusal(
+    net: &[i32],
+    w: usize,
+    h: usize,
+    short: bool,
+    coarse: usize,
+    details: usize,
+) -> Result<(), Refusal>
+    ensures { refused result ≡ split_refusal net.now w h (short || outputs_short w h coarse details) }
 {
-    let refusal = odd_refusal(w, h);
-    if refusal != 0 {
-        return refusal;
-    }
-    if short {
-        return net_refusal(net, w, h, true);
-    }
-    net_refusal(net, w, h, outputs_short(w, h, coarse, details))
+    odd_refusal(w, h)?;
+    net_refusal(net, w, h, short || outputs_short(w, h, coarse, details))
 }
 
 // `split` with one more lent output, of the caller's own: `short` is whether it is too short, which counts for 5.
@@ -101,18 +103,14 @@ pub fn split_with(
     short: bool,
     coarse: &mut [i32],
     details: &mut [i32],
-) -> SplitAnswer
+) -> Result<(), Refusal>
     ensures { SplitContract net.now w h short coarse.old details.old result
         coarse.new details.new }
 {
-    let refusal = split_refusal(net, w, h, short, coarse.len(), details.len());
-    if refusal == 0 {
-        store_coarse(net, w, h, coarse);
-        store_differences(net, w, h, coarse, details);
-        SplitAnswer::Done
-    } else {
-        SplitAnswer::Refused(refusal)
-    }
+    split_refusal(net, w, h, short, coarse.len(), details.len())?;
+    store_coarse(net, w, h, coarse);
+    store_differences(net, w, h, coarse, details);
+    Ok(())
 }
 
 // The coarse net over the front of `coarse` and the details over the front of `details`, or the first of 1, 10, 2, 5,
@@ -124,7 +122,7 @@ pub fn split(
     h: usize,
     coarse: &mut [i32],
     details: &mut [i32],
-) -> SplitAnswer
+) -> Result<(), Refusal>
     ensures { SplitContract net.now w h false coarse.old details.old result
         coarse.new details.new }
 {

@@ -8,7 +8,7 @@ ghost use Rattle.steps.specs.Steps.{pair_run, PairReady};
 
 use crate::vertices::store_triangle;
 use net::{STRIDE, load};
-use rule::{kept_triangle, triangle_along1, triangle_along2, triangle_along3};
+use rule::{edge_triangle, kept_triangle};
 
 // Of row 2n, stored from a place on.
 fn even_pair(net: &[i32], w: usize, h: usize, m: usize, n: usize, at: usize, out: &mut [i32])
@@ -20,7 +20,7 @@ fn even_pair(net: &[i32], w: usize, h: usize, m: usize, n: usize, at: usize, out
     store_triangle(kept_triangle(a), at, out);
     if m + 1 < w {
         let b = load(net, w, m + 1, n);
-        store_triangle(triangle_along1(a, b), at + STRIDE, out);
+        store_triangle(edge_triangle::<1>(a, b), at + STRIDE, out);
     }
 }
 
@@ -32,10 +32,10 @@ fn odd_pair(net: &[i32], w: usize, h: usize, m: usize, n: usize, at: usize, out:
 {
     let a = load(net, w, m, n);
     let c = load(net, w, m, n + 1);
-    store_triangle(triangle_along3(c, a), at, out);
+    store_triangle(edge_triangle::<3>(c, a), at, out);
     if m + 1 < w {
         let b = load(net, w, m + 1, n);
-        store_triangle(triangle_along2(b, c), at + STRIDE, out);
+        store_triangle(edge_triangle::<2>(b, c), at + STRIDE, out);
     }
 }
 

@@ -1,26 +1,27 @@
 -- Document 01's number and values for each case of each answer, and what the calls answer and leave in lent memory.
-use Rattle.std.specs.Prelude.{◌≡◌, refl, Bool, true, false, cond, List, [], ◌∷◌, map, ℕ, ℤ, pos, negsuc, Float}
+use Rattle.std.specs.Prelude.{◌≡◌, refl, Bool, true, false, cond, List, [], ◌∷◌, map, ℕ, ℤ, pos, negsuc, Float, Result, Ok, Err}
 use Rattle.std.specs.Float.{fin, binary64}
 use Rattle.std.specs.Float.Ieee.{of_int, div}
 use Rattle.exact.specs.Rounding.{rounded, floor_quotient}
 use Rattle.net.specs.Net.{numbers, control_point, control_triangle, squares}
 use Rattle.net.specs.Refusals.{accepted}
+use Rattle.net.specs.Results.{refusal_number}
+use Rattle.net.specs.declared.refusals.Refusal.{Refusal}
+use Rattle.net.specs.declared.refusals.Refusal.TheVariants as refusal
 use Rattle.spline.specs.Spline.{spline}
 use Rattle.surface.specs.SurfacePoint.{coordinate, surface_point}
 use Rattle.surface.specs.Refusals.{point_refusal_with}
-use Rattle.surface.specs.declared.answers.PointAnswer.{PointAnswer}
-use Rattle.surface.specs.declared.answers.PointAnswer.TheVariants as point
-use Rattle.surface.specs.declared.answers.ViewAnswer.{ViewAnswer}
-use Rattle.surface.specs.declared.answers.ViewAnswer.TheVariants as view
+use Rattle.surface.specs.declared.answers.Point.{Point}
+use Rattle.surface.specs.declared.answers.ViewPoint.{ViewPoint}
 
 -- the number and the values: x, y, z of a point, and none where it is refused
-abbrev pub point_outcome : PointAnswer → ℕ × List ℤ
-point_outcome (point.At p) = (0, p.x ∷ p.y ∷ p.z ∷ [])
-point_outcome (point.Refused n) = (n, [])
+abbrev pub point_outcome : Result Point Refusal → ℕ × List ℤ
+point_outcome (Ok p) = (0, p.x ∷ p.y ∷ p.z ∷ [])
+point_outcome (Err r) = (refusal_number r, [])
 
-abbrev pub view_outcome : ViewAnswer → ℕ × List Float
-view_outcome (view.At p) = (0, p.x ∷ p.y ∷ p.z ∷ [])
-view_outcome (view.Refused n) = (n, [])
+abbrev pub view_outcome : Result ViewPoint Refusal → ℕ × List Float
+view_outcome (Ok p) = (0, p.x ∷ p.y ∷ p.z ∷ [])
+view_outcome (Err r) = (refusal_number r, [])
 
 -- what a surface point answers, where `short` is whether an output lent for it is too short
 abbrev pub point_answer_with : List ℤ → ℕ → ℕ → ℕ → ℕ → Bool → ℕ × List ℤ
@@ -37,6 +38,10 @@ point_answer net w h p q = point_answer_with net w h p q false
 -- double 1024
 abbrev pub millimetres : ℤ → Float
 millimetres z = div binary64 (of_int binary64 z) (of_int binary64 (pos 1024))
+
+-- of a point, and of it for the viewer
+abbrev pub InMillimetres : Point → ViewPoint → Type 0
+InMillimetres p v = (v.x ≡ millimetres p.x) × (v.y ≡ millimetres p.y) × (v.z ≡ millimetres p.z)
 
 -- a viewer's point: x, y, z in millimetres
 abbrev pub view_point : List ℤ → ℕ → ℕ → ℕ → ℕ → List Float
@@ -59,13 +64,13 @@ unfolding div of_int
 millimetres_of = (refl, refl)
 
 outcomes :
-    (point_outcome (point.At (record { x = pos 1; y = pos 2; z = negsuc 2 })) ≡ (0, pos 1 ∷ pos 2 ∷ negsuc 2 ∷ []))
-    × (point_outcome (point.Refused 3) ≡ (3, []))
-    × (view_outcome (view.Refused 6) ≡ (6, []))
+    (point_outcome (Ok (record { x = pos 1; y = pos 2; z = negsuc 2 })) ≡ (0, pos 1 ∷ pos 2 ∷ negsuc 2 ∷ []))
+    × (point_outcome (Err refusal.Range) ≡ (3, []))
+    × (view_outcome (Err refusal.Place) ≡ (6, []))
 outcomes = (refl, refl, refl)
 
 viewed :
-    view_outcome (view.At (record { x = millimetres (pos 1); y = millimetres (pos 2); z = millimetres (pos 3) }))
+    view_outcome (Ok (record { x = millimetres (pos 1); y = millimetres (pos 2); z = millimetres (pos 3) }))
     ≡ (0, millimetres (pos 1) ∷ millimetres (pos 2) ∷ millimetres (pos 3) ∷ [])
 viewed = refl
 

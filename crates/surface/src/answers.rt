@@ -1,4 +1,4 @@
-// What the calls answer. `specs/Answers.antt` gives document 01's number and values of each case.
+// What the calls answer where nothing is refused. `specs/Answers.antt` gives the values.
 
 // A surface point in net units.
 #[derive(Clone, Copy)]
@@ -8,22 +8,10 @@ pub struct Point {
     pub z: i32,
 }
 
-#[derive(Clone, Copy)]
-pub enum PointAnswer {
-    At(Point),
-    Refused(u32),
-}
-
 // A viewer's point in millimetres.
 #[derive(Clone, Copy)]
 pub struct ViewPoint {
     pub x: f64,
     pub y: f64,
     pub z: f64,
-}
-
-#[derive(Clone, Copy)]
-pub enum ViewAnswer {
-    At(ViewPoint),
-    Refused(u32),
 }

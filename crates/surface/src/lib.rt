@@ -5,7 +5,7 @@ mod answers;
 mod points;
 
 // The calls of document 01: no preconditions.
-pub use answers::{Point, PointAnswer, ViewAnswer, ViewPoint};
+pub use answers::{Point, ViewPoint};
 pub use points::{surface_point, view_point};
 
 // For the crates above, whose callers lend an output for the point: no preconditions either.

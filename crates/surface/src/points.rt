@@ -2,11 +2,12 @@
 ghost use Rattle.std.specs.Prelude.{◌≡◌, false, ◌*◌, ◌≤◌, ◌<◌, nat_abs};
 ghost use Rattle.exact.specs.Rounding.{rounded};
 ghost use Rattle.surface.specs.Evaluation.{corner_values, evaluated, Evaluable};
-ghost use Rattle.surface.specs.Answers.{point_outcome, view_outcome, point_answer, point_answer_with, view_answer, view_answer_with, millimetres};
+ghost use Rattle.surface.specs.Answers.{point_outcome, view_outcome, point_answer, point_answer_with, view_answer, view_answer_with, millimetres, InMillimetres};
 
-use crate::answers::{Point, PointAnswer, ViewAnswer, ViewPoint};
+use crate::answers::{Point, ViewPoint};
 use de_casteljau::{Corner, last_average};
 use exact::round_even;
+use net::Refusal;
 use places::{locate, place_refusal, put_in_order};
 use triangles::{load_corner, triangle_beyond};
 
@@ -67,33 +68,30 @@ pub fn surface_point_with(
     p: usize,
     q: usize,
     short: bool,
-) -> PointAnswer
+) -> Result<Point, Refusal>
     ensures { point_outcome result ≡ point_answer_with net.now w h p q short }
 {
-    let refusal = place_refusal(net, w, h, p, q);
-    if refusal != 0 {
-        return PointAnswer::Refused(refusal);
-    }
+    place_refusal(net, w, h, p, q)?;
     if short {
-        return PointAnswer::Refused(5);
+        return Err(Refusal::Room);
     }
     let at = locate(w, h, p, q);
     let i = at.i;
     let j = at.j;
     let down = at.down;
     if triangle_beyond(net, w, i, j, down) {
-        return PointAnswer::Refused(3);
+        return Err(Refusal::Range);
     }
     let o = put_in_order(at.a, at.b, at.d);
     let p = load_corner(net, w, i, j, down, o.p);
     let q = load_corner(net, w, i, j, down, o.q);
     let t = load_corner(net, w, i, j, down, o.t);
-    PointAnswer::At(evaluate(o.ahead, o.a, o.b, o.g, [p, q, t]))
+    Ok(evaluate(o.ahead, o.a, o.b, o.g, [p, q, t]))
 }
 
 // The surface point at place (p, q), counted in 1,024ths of an edge.
 // Mirror images: `MirroredPoints` in `crates/mirror/specs/Promises.antt`.
-pub fn surface_point(net: &[i32], w: usize, h: usize, p: usize, q: usize) -> PointAnswer
+pub fn surface_point(net: &[i32], w: usize, h: usize, p: usize, q: usize) -> Result<Point, Refusal>
     ensures { point_outcome result ≡ point_answer net.now w h p q }
 {
     surface_point_with(net, w, h, p, q, false)
@@ -106,6 +104,19 @@ fn millimetres_of(z: i32) -> f64
     z as f64 / 1024.0
 }
 
+// A surface point for the viewer.
+impl From<Point> for ViewPoint {
+    ghost from_gives = { InMillimetres };
+
+    fn from(point: Point) -> ViewPoint {
+        ViewPoint {
+            x: millimetres_of(point.x),
+            y: millimetres_of(point.y),
+            z: millimetres_of(point.z),
+        }
+    }
+}
+
 // The same as `view_point`, for the crates above, with `short` as in `surface_point_with`.
 pub fn view_point_with(
     net: &[i32],
@@ -114,23 +125,15 @@ pub fn view_point_with(
     p: usize,
     q: usize,
     short: bool,
-) -> ViewAnswer
+) -> Result<ViewPoint, Refusal>
     ensures { view_outcome result ≡ view_answer_with net.now w h p q short }
 {
-    let answer = surface_point_with(net, w, h, p, q, short);
-    match answer {
-        PointAnswer::At(point) => ViewAnswer::At(ViewPoint {
-            x: millimetres_of(point.x),
-            y: millimetres_of(point.y),
-            z: millimetres_of(point.z),
-        }),
-        PointAnswer::Refused(n) => ViewAnswer::Refused(n),
-    }
+    Ok(surface_point_with(net, w, h, p, q, short)?.into())
 }
 
 // The surface point in millimetres, for the viewer.
 // Mirror images: `MirroredPoints` in `crates/mirror/specs/Promises.antt`.
-pub fn view_point(net: &[i32], w: usize, h: usize, p: usize, q: usize) -> ViewAnswer
+pub fn view_point(net: &[i32], w: usize, h: usize, p: usize, q: usize) -> Result<ViewPoint, Refusal>
     ensures { view_outcome result ≡ view_answer net.now w h p q }
 {
     view_point_with(net, w, h, p, q, false)

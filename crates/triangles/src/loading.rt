@@ -1,5 +1,6 @@
 // One corner's control triangle, by value and in the order ck, cn, cm. For `surface`, which has refused every triangle
-// that is not in the net. Places are numbers that an `if` chooses: an array that a variable indexes is put in memory.
+// that is not in the net. Places are numbers that an `if` chooses: an array that a variable indexes is put in memory. A
+// corner is a number from 0 to 2, since control triangles are taken by it.
 ghost use Rattle.std.specs.Prelude.{◌≡◌, [], ◌∷◌, ◌+◌, ◌*◌, ◌≤◌, ◌<◌, length, get_or};
 ghost use Rattle.net.specs.Net.{Index, rank, corner, triangle_at, start, control_point, stride, point_stride};
 ghost use Rattle.triangles.specs.BezierPoints.{index_k, index_m, index_n};

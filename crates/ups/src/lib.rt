@@ -4,9 +4,10 @@
 // speaks `crates/mirror/specs/Promises.antt`, by the definitions that these contracts cite.
 #![tactic(auto)]
 
-ghost use Rattle.std.specs.Prelude.{◌≡◌, [], ◌∷◌, ◌≤◌, ltb, length, take};
-ghost use Rattle.exact.specs.Filling.{over, UnchangedFrom};
+ghost use Rattle.std.specs.Prelude.{◌≡◌, ltb, length, take};
+ghost use Rattle.exact.specs.Filling.{UnchangedFrom};
 ghost use Rattle.net.specs.Refusals.{output_after, vertex_refusal};
+ghost use Rattle.net.specs.Results.{refused};
 ghost use Rattle.bezier.specs.BezierNet.{bezier_numbers};
 ghost use Rattle.surface.specs.SurfacePoint.{surface_point};
 ghost use Rattle.surface.specs.Answers.{view_point};
@@ -30,29 +31,39 @@ ghost use Rattle.outlined_refine.specs.Answers.{faults_of, outlined_refusal_of, 
 ghost use Rattle.outlined_refined_points.specs.Answers.{point_faults_of};
 ghost use Rattle.ups.specs.Exports.{exported_triangle, bezier_export, point_export, refined_point_export, seam_export, write_export, written_count, read_export, read_size, outlined_point_export, outlined_refined_export};
 
-use bezier::{BezierAnswer, bezier_net};
-use details::{CleanAnswer, clean};
-use hermite::{GivenAnswer, from_points};
-use merge::{MergeAnswer, merge};
-use net::{bad_size, store_point, vertex_refusal};
-use outline::{CheckAnswer, check_outline};
+use bezier::bezier_net;
+use details::clean;
+use hermite::from_points;
+use merge::merge;
+use net::{Refusal, bad_size, store_point, vertex_refusal};
+use outline::check_outline;
 use outlined_points::{bezier_net_outlined, surface_point_outlined_with, view_point_outlined_with};
 use outlined_refine::refine_outlined;
 use outlined_refined_points::refined_point_outlined_with;
-use reader::{ReadAnswer, read_with};
-use refine::{RefineAnswer, refine};
+use reader::read_with;
+use refine::refine;
 use refined_points::refined_point_with;
-use seam::{SeamAnswer, seam_points_with, store_points};
-use split::{SplitAnswer, split};
-use surface::{PointAnswer, ViewAnswer, ViewPoint, surface_point_with, view_point_with};
-use writer::{WriteAnswer, write_with};
+use seam::{seam_points_with, store_points};
+use split::split;
+use surface::{surface_point_with, view_point_with};
+use writer::write_with;
+
+// What C takes for a result: the number of its refusal, or 0.
+fn number_of(answer: Result<(), Refusal>) -> u32
+    ensures { result ≡ refused answer }
+{
+    match answer {
+        Ok(()) => 0,
+        Err(refusal) => refusal.number(),
+    }
+}
 
 // 1, 6, 2, or 0: the companion of the vertex part.
 #[unsafe(no_mangle)]
 pub extern "C" fn ups_vertex_refusal(net: &[i32], w: usize, h: usize, i: usize, j: usize) -> u32
     ensures { result ≡ vertex_refusal net.now w h i j }
 {
-    vertex_refusal(net, w, h, i, j)
+    number_of(vertex_refusal(net, w, h, i, j))
 }
 
 // The 57 numbers of a Bézier net into `out`. `down` is 0 or 1.
@@ -72,15 +83,11 @@ pub extern "C" fn ups_bezier_net(
 {
     if 1 < down {
         if bad_size(w, h) {
-            return 1;
+            return Refusal::Size.number();
         }
-        return 6;
+        return Refusal::Place.number();
     }
-    let answer = bezier_net(net, w, h, i, j, down == 1, out);
-    match answer {
-        BezierAnswer::Done => 0,
-        BezierAnswer::Refused(n) => n,
-    }
+    number_of(bezier_net(net, w, h, i, j, down == 1, out))
 }
 
 // The surface point's x, y, z into `out`.
@@ -96,24 +103,13 @@ pub extern "C" fn ups_surface_point(
     ensures value { result ≡ point_export net.now w h p q (length out.old) }
     ensures out_after { out.new ≡ output_after result (surface_point net.now w h p q) out.old }
 {
-    let answer = surface_point_with(net, w, h, p, q, out.len() < 3);
-    match answer {
-        PointAnswer::At(point) => {
+    match surface_point_with(net, w, h, p, q, out.len() < 3) {
+        Ok(point) => {
             store_point([point.x, point.y, point.z], 0, out);
             0
         }
-        PointAnswer::Refused(n) => n,
+        Err(refusal) => refusal.number(),
     }
-}
-
-// The three coordinates of a viewer's point over the front of `out`.
-fn store_view(point: ViewPoint, out: &mut [f64])
-    requires { 3 ≤ length out.old }
-    ensures { out.new ≡ over (point.x ∷ point.y ∷ point.z ∷ []) out.old }
-{
-    out[0] = point.x;
-    out[1] = point.y;
-    out[2] = point.z;
 }
 
 // The viewer's point's x, y, z, in millimetres, into `out`.
@@ -129,13 +125,12 @@ pub extern "C" fn ups_view_point(
     ensures value { result ≡ point_export net.now w h p q (length out.old) }
     ensures out_after { out.new ≡ output_after result (view_point net.now w h p q) out.old }
 {
-    let answer = view_point_with(net, w, h, p, q, out.len() < 3);
-    match answer {
-        ViewAnswer::At(point) => {
-            store_view(point, out);
+    match view_point_with(net, w, h, p, q, out.len() < 3) {
+        Ok(point) => {
+            store_point([point.x, point.y, point.z], 0, out);
             0
         }
-        ViewAnswer::Refused(n) => n,
+        Err(refusal) => refusal.number(),
     }
 }
 
@@ -153,13 +148,12 @@ pub extern "C" fn ups_write(
     ensures out_after { out.new ≡ output_after result (net_file net.now w h) out.old }
     ensures written_after { written.new ≡ output_after result (written_count w h) written.old }
 {
-    let answer = write_with(net, w, h, written.len() < 1, out);
-    match answer {
-        WriteAnswer::Written(n) => {
+    match write_with(net, w, h, written.len() < 1, out) {
+        Ok(n) => {
             written[0] = n as u64;
             0
         }
-        WriteAnswer::Refused(n) => n,
+        Err(refusal) => refusal.number(),
     }
 }
 
@@ -170,14 +164,13 @@ pub extern "C" fn ups_read(file: &[u8], net: &mut [i32], size: &mut [u64]) -> u3
     ensures net_after { net.new ≡ output_after result (file_numbers file.now) net.old }
     ensures size_after { size.new ≡ output_after result (read_size file.now) size.old }
 {
-    let answer = read_with(file, size.len() < 2, net);
-    match answer {
-        ReadAnswer::Size(w, h) => {
+    match read_with(file, size.len() < 2, net) {
+        Ok((w, h)) => {
             size[0] = w as u64;
             size[1] = h as u64;
             0
         }
-        ReadAnswer::Refused(n) => n,
+        Err(refusal) => refusal.number(),
     }
 }
 
@@ -195,11 +188,7 @@ pub extern "C" fn ups_refine(
     ensures out_after { out.new ≡ output_after result (refined_net net.now w h k) out.old }
     ensures unchanged_from { UnchangedFrom (free_scratch result k w h) scratch.old scratch.new }
 {
-    let answer = refine(net, w, h, k, out, scratch);
-    match answer {
-        RefineAnswer::Done => 0,
-        RefineAnswer::Refused(n) => n,
-    }
+    number_of(refine(net, w, h, k, out, scratch))
 }
 
 // The same, and the surface point at place (p, q) of the refined net into `point`. Its last promise is demand 3.
@@ -223,13 +212,12 @@ pub extern "C" fn ups_refined_point(
         ≡ output_after result (refined_surface_point net.now w h k p q) point.old }
     ensures claimed { result ≡ 0 → Claimed net.now w h k p q (result, take 3 point.new) }
 {
-    let answer = refined_point_with(net, w, h, k, p, q, point.len() < 3, out, scratch);
-    match answer {
-        PointAnswer::At(at) => {
+    match refined_point_with(net, w, h, k, p, q, point.len() < 3, out, scratch) {
+        Ok(at) => {
             store_point([at.x, at.y, at.z], 0, point);
             0
         }
-        PointAnswer::Refused(n) => n,
+        Err(refusal) => refusal.number(),
     }
 }
 
@@ -262,7 +250,7 @@ pub extern "C" fn ups_seam_points(
         ≡ output_after result (seam_points net.now w h k l p q p2 q2) points.old }
     ensures seam_holds { result ≡ 0 → SeamHolds net.now w h k l p q p2 q2 result points.new }
 {
-    let answer = seam_points_with(
+    match seam_points_with(
         net,
         w,
         h,
@@ -277,13 +265,12 @@ pub extern "C" fn ups_seam_points(
         scratch,
         out2,
         scratch2,
-    );
-    match answer {
-        SeamAnswer::At(a, b) => {
+    ) {
+        Ok((a, b)) => {
             store_points(a, b, points);
             0
         }
-        SeamAnswer::Refused(n) => n,
+        Err(refusal) => refusal.number(),
     }
 }
 
@@ -300,11 +287,7 @@ pub extern "C" fn ups_split(
     ensures coarse_after { coarse.new ≡ split_coarse result net.now w h coarse.old }
     ensures details_after { details.new ≡ split_details result net.now w h details.old }
 {
-    let answer = split(net, w, h, coarse, details);
-    match answer {
-        SplitAnswer::Done => 0,
-        SplitAnswer::Refused(n) => n,
-    }
+    number_of(split(net, w, h, coarse, details))
 }
 
 // The net that a coarse net and details merge to into `out`; w and h are those of the coarse net.
@@ -320,11 +303,7 @@ pub extern "C" fn ups_merge(
     ensures out_after { out.new
         ≡ output_after result (merged_net coarse.now details.now w h) out.old }
 {
-    let answer = merge(coarse, details, w, h, out);
-    match answer {
-        MergeAnswer::Done => 0,
-        MergeAnswer::Refused(n) => n,
-    }
+    number_of(merge(coarse, details, w, h, out))
 }
 
 // The details, cleaned in place; w and h are those of the fine net.
@@ -334,11 +313,7 @@ pub extern "C" fn ups_clean(details: &mut [i32], w: usize, h: usize, t: u32) -> 
     ensures details_after { details.new
         ≡ output_after result (cleaned_details details.old w h t) details.old }
 {
-    let answer = clean(details, w, h, t);
-    match answer {
-        CleanAnswer::Done => 0,
-        CleanAnswer::Refused(n) => n,
-    }
+    number_of(clean(details, w, h, t))
 }
 
 // Whether an outline can be taken for a net of width w and height h. Where none of 1, 2, 13 and 5 refuses, the first
@@ -349,11 +324,7 @@ pub extern "C" fn ups_check_outline(outline: &[u8], w: usize, h: usize, search: 
     ensures unchanged_from { UnchangedFrom (free_search (check_faults outline.now w h (length search.old)) w h)
         search.old search.new }
 {
-    let answer = check_outline(outline, w, h, search);
-    match answer {
-        CheckAnswer::Done => 0,
-        CheckAnswer::Refused(n) => n,
-    }
+    number_of(check_outline(outline, w, h, search))
 }
 
 // The 57 numbers of a Bézier net of a present triangle into `out`.
@@ -373,11 +344,7 @@ pub extern "C" fn ups_bezier_net_outlined(
     ensures out_after { out.new
         ≡ output_after result (bezier_numbers net.now w (triangle_by i j down)) out.old }
 {
-    let answer = bezier_net_outlined(net, w, h, outline, i, j, down, out);
-    match answer {
-        BezierAnswer::Done => 0,
-        BezierAnswer::Refused(n) => n,
-    }
+    number_of(bezier_net_outlined(net, w, h, outline, i, j, down, out))
 }
 
 // The surface point at a place on the door into `out`.
@@ -395,13 +362,12 @@ pub extern "C" fn ups_surface_point_outlined(
         (length out.old) }
     ensures out_after { out.new ≡ output_after result (surface_point net.now w h p q) out.old }
 {
-    let answer = surface_point_outlined_with(net, w, h, outline, p, q, out.len() < 3);
-    match answer {
-        PointAnswer::At(point) => {
+    match surface_point_outlined_with(net, w, h, outline, p, q, out.len() < 3) {
+        Ok(point) => {
             store_point([point.x, point.y, point.z], 0, out);
             0
         }
-        PointAnswer::Refused(n) => n,
+        Err(refusal) => refusal.number(),
     }
 }
 
@@ -420,13 +386,12 @@ pub extern "C" fn ups_view_point_outlined(
         (length out.old) }
     ensures out_after { out.new ≡ output_after result (view_point net.now w h p q) out.old }
 {
-    let answer = view_point_outlined_with(net, w, h, outline, p, q, out.len() < 3);
-    match answer {
-        ViewAnswer::At(point) => {
-            store_view(point, out);
+    match view_point_outlined_with(net, w, h, outline, p, q, out.len() < 3) {
+        Ok(point) => {
+            store_point([point.x, point.y, point.z], 0, out);
             0
         }
-        ViewAnswer::Refused(n) => n,
+        Err(refusal) => refusal.number(),
     }
 }
 
@@ -452,11 +417,7 @@ pub extern "C" fn ups_refine_outlined(
         net.now w h k outline.now out.old scratch.old fine.old
         search.old out.new scratch.new fine.new search.new }
 {
-    let answer = refine_outlined(net, w, h, k, outline, out, scratch, fine, search);
-    match answer {
-        RefineAnswer::Done => 0,
-        RefineAnswer::Refused(number) => number,
-    }
+    number_of(refine_outlined(net, w, h, k, outline, out, scratch, fine, search))
 }
 
 // The same, and the surface point at place (p, q) of the refined net, a place on the door, into `point`. Its last
@@ -487,7 +448,7 @@ pub extern "C" fn ups_refined_point_outlined(
         ≡ output_after result (refined_surface_point net.now w h k p q) point.old }
     ensures claimed { result ≡ 0 → Claimed net.now w h k p q (result, take 3 point.new) }
 {
-    let answer = refined_point_outlined_with(
+    match refined_point_outlined_with(
         net,
         w,
         h,
@@ -500,13 +461,12 @@ pub extern "C" fn ups_refined_point_outlined(
         scratch,
         fine,
         search,
-    );
-    match answer {
-        PointAnswer::At(at) => {
+    ) {
+        Ok(at) => {
             store_point([at.x, at.y, at.z], 0, point);
             0
         }
-        PointAnswer::Refused(n) => n,
+        Err(refusal) => refusal.number(),
     }
 }
 
@@ -516,9 +476,5 @@ pub extern "C" fn ups_from_points(given: &[i32], w: usize, h: usize, out: &mut [
     ensures value { result ≡ given_refusal_of given.now w h out.old }
     ensures out_after { out.new ≡ output_after result (hermite_net given.now w h) out.old }
 {
-    let answer = from_points(given, w, h, out);
-    match answer {
-        GivenAnswer::Done => 0,
-        GivenAnswer::Refused(n) => n,
-    }
+    number_of(from_points(given, w, h, out))
 }

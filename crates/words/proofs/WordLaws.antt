@@ -18,6 +18,9 @@ use Rattle.exact.proofs.Parts.{integers, sum_parts, difference_parts}
 use Rattle.exact.proofs.FillingLaws.{runs_of_list}
 use Rattle.net.proofs.Faults.{cond_true, cond_false}
 use Rattle.words.specs.NetFile.{word, word_kind, word_payload, complement, signed, word_bytes, first_word, AllBytes}
+use Rattle.words.specs.declared.kinds.Kind.{Kind}
+use Rattle.words.specs.declared.kinds.Kind.TheVariants as kind
+use Rattle.words.specs.Kinds.{kind_number}
 use Rattle.words.specs.LowFirst.{swapped_bytes, low_first, low_bytes}
 
 -- ---- kind and payload
@@ -27,6 +30,15 @@ kind_of_word kind h = digits_div kind h
 
 pub payload_of_word : (kind : ℕ) {payload : ℕ} → payload < 268435456 → word_payload (word kind payload) ≡ payload
 payload_of_word kind h = digits_mod kind h
+
+-- a kind is less than 2^4, so that it fits beside 28 bits
+pub kind_small : (k : Kind) → kind_number k < 16
+kind_small kind.Width = lit< tt
+kind_small kind.Height = lit< tt
+kind_small kind.X = lit< tt
+kind_small kind.Y = lit< tt
+kind_small kind.Z = lit< tt
+kind_small kind.End = lit< tt
 
 pub payload_small : (v : ℕ) → word_payload v < 268435456
 payload_small v = omega arith

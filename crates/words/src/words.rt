@@ -3,18 +3,16 @@ ghost use Rattle.std.specs.Prelude.{◌≡◌, [], ◌∷◌, ◌+◌, ◌≤◌
 ghost use Rattle.std.proofs.lemmas.List.Edits.{sets};
 ghost use Rattle.net.specs.Refusals.{first_fault};
 ghost use Rattle.words.specs.NetFile.{word, word_payload, complement, signed, word_bytes, number_bytes, first_word, first_number};
+ghost use Rattle.words.specs.Kinds.{kind_number};
 ghost use Rattle.words.specs.LowFirst.{swapped_bytes, low_first, low_bytes};
 ghost use Rattle.words.specs.Refusals.{word_faults};
 ghost use Rattle.words.specs.Answers.{word_outcome, answer};
 
-// What the bytes that are left begin with where a word is due: the payload of a word of the kind asked for, or 7 or 8.
-#[derive(Clone, Copy)]
-pub enum Parsed {
-    Payload(u32),
-    Refused(u32),
-}
+use crate::kinds::Kind;
+use net::Refusal;
 
-// The byte swap of a word.
+// The byte swap of a word. This and the next are not the library's methods: the theorems on `specs/LowFirst.antt`, that
+// this way gives document 01's words, are of these steps.
 fn swap_bytes(v: u32) -> u32
     ensures { result ≡ swapped_bytes v }
 {
@@ -41,20 +39,20 @@ fn first_word(bytes: &[u8]) -> u32
     swap_bytes(load_low_first(bytes))
 }
 
-// The word that is due, by its kind.
-pub fn parse_word(left: &[u8], kind: u32) -> Parsed
+// The payload of the word that is due, by its kind, where the bytes that are left begin with one; or 7 or 8.
+pub fn parse_word(left: &[u8], kind: Kind) -> Result<u32, Refusal>
     ensures { word_outcome result
-        ≡ answer (first_fault (word_faults left.now kind))
+        ≡ answer (first_fault (word_faults left.now (kind_number kind)))
         (word_payload (first_word left.now) ∷ []) }
 {
     if left.len() < 4 {
-        return Parsed::Refused(7);
+        return Err(Refusal::MissingWord);
     }
     let v = first_word(left);
-    if v / 268435456 == kind {
-        Parsed::Payload(v % 268435456)
+    if v / 268435456 == kind.number() {
+        Ok(v % 268435456)
     } else {
-        Parsed::Refused(8)
+        Err(Refusal::WrongWord)
     }
 }
 
@@ -97,19 +95,19 @@ fn store_low_first(v: u32, at: usize, out: &mut [u8])
 }
 
 // The bytes of a word, stored from a place on. For the writer, which has refused every output that is too short.
-pub fn store_word(kind: u32, payload: u32, at: usize, out: &mut [u8])
-    requires { (kind < 16) × (payload < 268435456) × (at + 4 ≤ length out.old) }
-    ensures { out.new ≡ sets out.old at (word_bytes (word kind payload)) }
+pub fn store_word(kind: Kind, payload: u32, at: usize, out: &mut [u8])
+    requires { (payload < 268435456) × (at + 4 ≤ length out.old) }
+    ensures { out.new ≡ sets out.old at (word_bytes (word (kind_number kind) payload)) }
 {
-    let v = kind * 268435456 + payload;
+    let v = kind.number() * 268435456 + payload;
     store_low_first(swap_bytes(v), at, out);
 }
 
 // The bytes of a number's word, stored from a place on. For the writer, which has refused every number beyond its range
 // too.
-pub fn store_number(kind: u32, z: i32, at: usize, out: &mut [u8])
-    requires { (kind < 16) × (nat_abs z ≤ 16777216) × (at + 4 ≤ length out.old) }
-    ensures { out.new ≡ sets out.old at (number_bytes kind z) }
+pub fn store_number(kind: Kind, z: i32, at: usize, out: &mut [u8])
+    requires { (nat_abs z ≤ 16777216) × (at + 4 ≤ length out.old) }
+    ensures { out.new ≡ sets out.old at (number_bytes (kind_number kind) z) }
 {
     let payload = complement_of(z);
     store_word(kind, payload, at, out);

@@ -1,18 +1,19 @@
 -- Document 01's number and values of each case of the answer, and what writing answers and leaves in lent memory.
-use Rattle.std.specs.Prelude.{◌≡◌, refl, Bool, List, [], ◌∷◌, ◌++◌, ℕ, ℤ, length, replicate}
+use Rattle.std.specs.Prelude.{◌≡◌, refl, Bool, List, [], ◌∷◌, ◌++◌, ℕ, ℤ, length, replicate, Result, Ok, Err}
 use Rattle.exact.specs.Filling.{over, runs}
 use Rattle.net.specs.Net.{numbers, squares}
 use Rattle.net.specs.Refusals.{net_beyond, output_after}
+use Rattle.net.specs.Results.{refusal_number}
+use Rattle.net.specs.declared.refusals.Refusal.{Refusal}
+use Rattle.net.specs.declared.refusals.Refusal.TheVariants as refusal
 use Rattle.words.specs.NetFile.{word_bytes, point_bytes, net_file, file_size}
 use Rattle.words.specs.Answers.{answer}
 use Rattle.writer.specs.Refusals.{no_room, write_refusal}
-use Rattle.writer.specs.declared.answers.WriteAnswer.{WriteAnswer}
-use Rattle.writer.specs.declared.answers.WriteAnswer.TheVariants as written
 
 -- document 01's number of an answer, 0 where nothing is refused, and its values: the count of bytes
-abbrev pub write_outcome : WriteAnswer → ℕ × List ℕ
-write_outcome (written.Written n) = (0, n ∷ [])
-write_outcome (written.Refused n) = (n, [])
+abbrev pub write_outcome : Result ℕ Refusal → ℕ × List ℕ
+write_outcome (Ok n) = (0, n ∷ [])
+write_outcome (Err r) = (refusal_number r, [])
 
 -- what writing answers and leaves in the lent output, where `short` is whether a lent output is too short
 abbrev pub write_answer_with : List ℤ → ℕ → ℕ → Bool → ℕ × List ℕ
@@ -30,7 +31,7 @@ write_output net w h out = write_output_with net w h (no_room w h (length out)) 
 
 -- worked cases: outcomes of answers; of the net of 2 by 3 whose numbers are the squares, written with room for a byte
 -- more, and refused
-outcomes : (write_outcome (written.Written 156) ≡ (0, 156 ∷ [])) × (write_outcome (written.Refused 5) ≡ (5, []))
+outcomes : (write_outcome (Ok 156) ≡ (0, 156 ∷ [])) × (write_outcome (Err refusal.Room) ≡ (5, []))
 outcomes = (refl, refl)
 
 abbrev net23 : List ℤ

@@ -1,11 +1,9 @@
 // The net file's writer.
 #![tactic(auto)]
 
-mod answers;
 mod writing;
 
 // The call of document 01: no preconditions.
-pub use answers::WriteAnswer;
 pub use writing::write;
 
 // For the crates above, whose callers lend one output more: no preconditions either.

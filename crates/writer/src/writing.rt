@@ -6,12 +6,12 @@ ghost use Rattle.exact.specs.Filling.{over, runs};
 ghost use Rattle.net.specs.Net.{numbers, point_stride};
 ghost use Rattle.net.specs.Refusals.{bad_size, any_beyond};
 ghost use Rattle.words.specs.NetFile.{head_size, point_size, point_place, point_bytes, net_file, file_size};
+ghost use Rattle.net.specs.Results.{refused};
 ghost use Rattle.writer.specs.Refusals.{no_room, write_refusal};
 ghost use Rattle.writer.specs.Answers.{write_outcome, write_answer_with, write_output_with, write_answer, write_output};
 
-use crate::answers::WriteAnswer;
-use net::{POINT_STRIDE, STRIDE, bad_size, net_beyond, short_net};
-use words::{HEAD_SIZE, POINT_SIZE, store_number, store_word};
+use net::{POINT_STRIDE, Refusal, STRIDE, bad_size, net_beyond, short_net};
+use words::{HEAD_SIZE, Kind, POINT_SIZE, store_number, store_word};
 
 // So many bytes the file of a net of an accepted size has.
 fn file_size(w: usize, h: usize) -> usize
@@ -21,26 +21,23 @@ fn file_size(w: usize, h: usize) -> usize
     HEAD_SIZE + POINT_SIZE * (3 * (w * h)) + 4
 }
 
-// The number of the first fault, 1, 2, 5 or 3, or 0 where there is none.
-fn write_refusal(net: &[i32], w: usize, h: usize, short: bool, room: usize) -> u32
-    ensures { result ≡ write_refusal net.now w h (short || no_room w h room) }
+// The first fault, 1, 2, 5 or 3.
+fn write_refusal(net: &[i32], w: usize, h: usize, short: bool, room: usize) -> Result<(), Refusal>
+    ensures { refused result ≡ write_refusal net.now w h (short || no_room w h room) }
 {
     if bad_size(w, h) {
-        return 1;
+        return Err(Refusal::Size);
     }
     if short_net(net, w, h) {
-        return 2;
+        return Err(Refusal::Short);
     }
-    if short {
-        return 5;
-    }
-    if room < file_size(w, h) {
-        return 5;
+    if short || room < file_size(w, h) {
+        return Err(Refusal::Room);
     }
     if net_beyond(net, w, h) {
-        return 3;
+        return Err(Refusal::Range);
     }
-    0
+    Ok(())
 }
 
 // The words of the control point that begins at a place of the net.
@@ -51,9 +48,9 @@ fn store_numbers(net: &[i32], from: usize, at: usize, out: &mut [u8])
     let x = net[from];
     let y = net[from + 1];
     let z = net[from + 2];
-    store_number(3, x, at, out);
-    store_number(4, y, at + 4, out);
-    store_number(5, z, at + 8, out);
+    store_number(Kind::X, x, at, out);
+    store_number(Kind::Y, y, at + 4, out);
+    store_number(Kind::Z, z, at + 8, out);
 }
 
 // The words of the first n control points, after two words.
@@ -75,34 +72,35 @@ fn store_file(net: &[i32], w: usize, h: usize, out: &mut [u8])
     ensures { out.new ≡ over (net_file net.now w h) out.old }
 {
     let n = 3 * (w * h);
-    store_word(1, w as u32, 0, out);
-    store_word(2, h as u32, 4, out);
+    store_word(Kind::Width, w as u32, 0, out);
+    store_word(Kind::Height, h as u32, 4, out);
     store_points(net, n, out);
-    store_word(6, 0, HEAD_SIZE + POINT_SIZE * n, out);
+    store_word(Kind::End, 0, HEAD_SIZE + POINT_SIZE * n, out);
 }
 
 // The same as `write`, for the crates above: `short` is whether another output that they were lent is too short, which
 // is 5 too.
-pub fn write_with(net: &[i32], w: usize, h: usize, short: bool, out: &mut [u8]) -> WriteAnswer
+pub fn write_with(
+    net: &[i32],
+    w: usize,
+    h: usize,
+    short: bool,
+    out: &mut [u8],
+) -> Result<usize, Refusal>
     ensures result_value { write_outcome result
         ≡ write_answer_with net.now w h (short || no_room w h (length out.old)) }
     ensures out_after { out.new
         ≡ write_output_with net.now w h (short || no_room w h (length out.old))
         out.old }
 {
-    let refusal = write_refusal(net, w, h, short, out.len());
-    if refusal == 0 {
-        let n = STRIDE * (w * h);
-        store_file(&net[0..n], w, h, out);
-        let count = file_size(w, h);
-        WriteAnswer::Written(count)
-    } else {
-        WriteAnswer::Refused(refusal)
-    }
+    write_refusal(net, w, h, short, out.len())?;
+    let n = STRIDE * (w * h);
+    store_file(&net[0..n], w, h, out);
+    Ok(file_size(w, h))
 }
 
-// The net's file over the front of `out`, or the first of 1, 2, 5, 3.
-pub fn write(net: &[i32], w: usize, h: usize, out: &mut [u8]) -> WriteAnswer
+// The net's file over the front of `out` and the count of its bytes, or the first of 1, 2, 5, 3.
+pub fn write(net: &[i32], w: usize, h: usize, out: &mut [u8]) -> Result<usize, Refusal>
     ensures result_value { write_outcome result ≡ write_answer net.now w h out.old }
     ensures out_after { out.new ≡ write_output net.now w h out.old }
 {

@@ -15,10 +15,10 @@ use Rattle.reader.specs.Answers.{read_outcome}
 use Rattle.reader.proofs.ReadLaws.{read_fits}
 use Rattle.ups.proofs.Exports.{exported}
 use Rattle.ups.proofs.ups_read.Goals as goal
-use Rattle.ups.proofs.ups_read.Goals.{After-read_with-answer, In-Size}
+use Rattle.ups.proofs.ups_read.Goals.{After-read_with, In-Ok}
 
 -- the answer
-module _ (c : After-read_with-answer) where
+module _ (c : After-read_with) where
   abbrev file : List ℕ
   file = c.args.file.now
 
@@ -42,19 +42,19 @@ module _ (c : After-read_with-answer) where
   room none = ltb-false (length counts) 2 (or_none (ltb (length counts) 2) (short_for file (length net)) (read_fits file short none)).0
 
 -- an accepted one
-module _ (c : In-Size) where
-  abbrev at : After-read_with-answer
-  at = (goal.at.In-Size c).After-read_with-answer
+module _ (c : In-Ok) where
+  abbrev at : After-read_with
+  at = (goal.at.In-Ok c).After-read_with
 
-  outcome : ◌≡◌ {A = ℕ × List ℕ} (0, c.in-Size.w ∷ c.in-Size.h ∷ [])
+  outcome : ◌≡◌ {A = ℕ × List ℕ} (0, c.in-Ok.w ∷ c.in-Ok.h ∷ [])
       (refusal at, cond (accepted (refusal at)) (sides at) [])
-  outcome = sym (ap read_outcome c.in-Size.is) ∙ at.read_with-answer.ensures.result_value
+  outcome = c.in-Ok.ensures.result_value
 
   sides_fit : 2 ≤ length (counts at)
   sides_fit = room at (answered (refusal at) (sides at) outcome).0
 
-pub returns-in-Size : goal.returns-in-Size
-returns-in-Size c =
+pub returns-in-Ok : goal.returns-in-Ok
+returns-in-Ok c =
     let p = (let k = at c in
     exported (refusal k) (sides k) (counts k) (file_numbers (file k)) (net k) (outcome c) (sides_fit c) refl
-    k.read_with-answer.ensures.net_after) in record { value = p.0; net_after = p.1.0; size_after = p.1.1 }
+    k.read_with.ensures.net_after) in record { value = p.0; net_after = p.1.0; size_after = p.1.1 }

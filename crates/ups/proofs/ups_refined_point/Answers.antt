@@ -16,7 +16,7 @@ use Rattle.refined_points.specs.Answers.{refusal_at, refined_surface_point}
 use Rattle.refined_points.proofs.RefinedPoints.{point_accepted}
 use Rattle.ups.proofs.Exports.{stored_point, left_exported, claimed_exported}
 use Rattle.ups.proofs.ups_refined_point.Goals as goal
-use Rattle.ups.proofs.ups_refined_point.Goals.{After-refined_point_with-answer, In-At, Start}
+use Rattle.ups.proofs.ups_refined_point.Goals.{After-refined_point_with, In-Ok, Start}
 
 abbrev short : Start → Bool
 short s = ltb (length s.args.point.now) 3
@@ -40,33 +40,29 @@ room s none =
     (length s.args.out.now) (length s.args.scratch.now) none).2
 
 -- the outcome of an answer with a point
-module _ (c : In-At) where
-  abbrev call : After-refined_point_with-answer
-  call = (goal.at.In-At c).After-refined_point_with-answer
+module _ (c : In-Ok) where
+  abbrev call : After-refined_point_with
+  call = (goal.at.In-Ok c).After-refined_point_with
 
   abbrev start : Start
-  start = (goal.at.In-At c).Start
+  start = (goal.at.In-Ok c).Start
 
-  outcome : ◌≡◌ {A = ℕ × List ℤ} (point_outcome call.refined_point_with-answer.result)
-      (refusal start, cond (accepted (refusal start)) (values start) [])
-  outcome = call.refined_point_with-answer.ensures.answer
-
-  given : (let point = c.in-At.at in (refusal start ≡ 0)
+  given : (let point = c.in-Ok.at in (refusal start ≡ 0)
       × (point.x ∷ point.y ∷ point.z ∷ [] ≡ values start))
-  given = answered (refusal start) (values start) (sym (ap point_outcome c.in-At.is) ∙ outcome)
+  given = answered (refusal start) (values start) c.in-Ok.ensures.answer
 
-pub returns-in-At : goal.returns-in-At
-returns-in-At c =
-    let a = (goal.at.returns-in-At c).In-At in
+pub returns-in-Ok : goal.returns-in-Ok
+returns-in-Ok c =
+    let a = (goal.at.returns-in-Ok c).In-Ok in
     let s = start a in
     let k = call a in
-    let point = a.in-At.at in
+    let point = a.in-Ok.at in
     let fits = c.struct_told-1.given in
     let left =
     left_exported (refusal s) s.args.k s.args.w s.args.h (result s) s.args.out.now
-    s.args.scratch.now k.refined_point_with-answer.new.out
-    k.refined_point_with-answer.new.scratch (sym (given a).0)
-    (k.refined_point_with-answer.ensures.output, k.refined_point_with-answer.ensures.scratch_free) in
+    s.args.scratch.now k.refined_point_with.new.out
+    k.refined_point_with.new.scratch (sym (given a).0)
+    (k.refined_point_with.ensures.output, k.refined_point_with.ensures.scratch_free) in
     let out = s.args.point.now in
     let stored =
     stored_point point.x point.y point.z out fits.0.1 fits.1.0.1 fits.1.1.0.1
@@ -74,8 +70,8 @@ returns-in-At c =
     ∙ ap (λ (l : List ℤ). over l out) (given a).1 in
     let claim =
     claimed_exported s.args.net.now s.args.w s.args.h s.args.k s.args.p s.args.q (values s) out
-    (k.refined_point_with-answer.ensures.demand_three (given a).0)
-    (ap point_outcome a.in-At.is ∙ (λ t. (0, (given a).1 t))) refl stored in record {
+    (a.in-Ok.ensures.demand_three (given a).0)
+    (λ t. (0, (given a).1 t)) refl stored in record {
       value = left.0;
       out_after = left.1.0;
       unchanged_from = left.1.1;

@@ -17,12 +17,12 @@ use Rattle.outlined_refined_points.specs.Answers.{point_faults_of, outlined_refu
 use Rattle.outlined_refined_points.proofs.CallLaws.{point_fits}
 use Rattle.ups.proofs.Exports.{stored_point, outlined_left, claimed_exported}
 use Rattle.ups.proofs.ups_refined_point_outlined.Goals as goal
-use Rattle.ups.proofs.ups_refined_point_outlined.Goals.{After-refined_point_outlined_with-answer, In-At, Start}
+use Rattle.ups.proofs.ups_refined_point_outlined.Goals.{After-refined_point_outlined_with, In-Ok, Start}
 
 -- what the call answered and left
-module _ (k : After-refined_point_outlined_with-answer) where
+module _ (k : After-refined_point_outlined_with) where
   abbrev start : Start
-  start = (goal.at.After-refined_point_outlined_with-answer k).Start
+  start = (goal.at.After-refined_point_outlined_with k).Start
 
   abbrev point : List ℤ
   point = start.args.point.now
@@ -47,21 +47,17 @@ module _ (k : After-refined_point_outlined_with-answer) where
       let a = start.args in
       refined_surface_point a.net.now a.w a.h a.k a.p a.q
 
-  outcome : {n : ℕ} {l : List ℤ} → point_outcome k.refined_point_outlined_with-answer.result ≡ (n, l) →
-      ◌≡◌ {A = ℕ × List ℤ} (n, l) (refusal, cond (accepted refusal) values [])
-  outcome e = sym e ∙ k.refined_point_outlined_with-answer.ensures.answer
-
   left : {n : ℕ} → n ≡ refusal → (let a = start.args in
-      let after = k.refined_point_outlined_with-answer.new in
+      let after = k.refined_point_outlined_with.new in
       (n ≡ refusal)
       × OutlinedLeft n before a.net.now a.w a.h a.k a.outline.now a.out.now a.scratch.now
       a.fine.now a.search.now after.out after.scratch after.fine after.search)
   left e =
       let a = start.args in
-      let after = k.refined_point_outlined_with-answer.new in
+      let after = k.refined_point_outlined_with.new in
       outlined_left refusal before a.net.now a.w a.h a.k a.outline.now a.out.now a.scratch.now
       a.fine.now a.search.now after.out after.scratch after.fine after.search e
-      k.refined_point_outlined_with-answer.ensures.left
+      k.refined_point_outlined_with.ensures.left
 
   -- there is room for the point where nothing is refused
   room : refusal ≡ 0 → 3 ≤ length point
@@ -72,19 +68,19 @@ module _ (k : After-refined_point_outlined_with-answer) where
       a.scratch.now a.fine.now a.search.now none)
 
 -- of an answer with a point
-module _ (c : In-At) where
-  abbrev call : After-refined_point_outlined_with-answer
-  call = (goal.at.In-At c).After-refined_point_outlined_with-answer
+module _ (c : In-Ok) where
+  abbrev call : After-refined_point_outlined_with
+  call = (goal.at.In-Ok c).After-refined_point_outlined_with
 
-  given : (let at = c.in-At.at in (refusal call ≡ 0) × (at.x ∷ at.y ∷ at.z ∷ [] ≡ values call))
-  given = answered (refusal call) (values call) (outcome call (ap point_outcome c.in-At.is))
+  given : (let at = c.in-Ok.at in (refusal call ≡ 0) × (at.x ∷ at.y ∷ at.z ∷ [] ≡ values call))
+  given = answered (refusal call) (values call) c.in-Ok.ensures.answer
 
-pub returns-in-At : goal.returns-in-At
-returns-in-At c =
-    let a = (goal.at.returns-in-At c).In-At in
+pub returns-in-Ok : goal.returns-in-Ok
+returns-in-Ok c =
+    let a = (goal.at.returns-in-Ok c).In-Ok in
     let k = call a in
     let s = start k in
-    let at = a.in-At.at in
+    let at = a.in-Ok.at in
     let fits = c.struct_told-1.given in
     let stored =
     stored_point at.x at.y at.z (point k) fits.0.1 fits.1.0.1 fits.1.1.0.1
@@ -92,8 +88,8 @@ returns-in-At c =
     ∙ ap (λ (l : List ℤ). over l (point k)) (given a).1 in
     let claim =
     claimed_exported s.args.net.now s.args.w s.args.h s.args.k s.args.p s.args.q (values k)
-    (point k) (k.refined_point_outlined_with-answer.ensures.demand_three (given a).0)
-    (ap point_outcome a.in-At.is ∙ (λ t. (0, (given a).1 t))) refl stored in
+    (point k) (a.in-Ok.ensures.demand_three (given a).0)
+    (λ t. (0, (given a).1 t)) refl stored in
     let l = left k (sym (given a).0) in record {
       value = l.0;
       outlined_left = l.1;

@@ -12,12 +12,12 @@ use Rattle.surface.specs.SurfacePoint.{surface_point}
 use Rattle.ups.specs.Exports.{point_export}
 use Rattle.ups.proofs.Exports.{point_room, stored_point, point_exported}
 use Rattle.ups.proofs.ups_surface_point.Goals as goal
-use Rattle.ups.proofs.ups_surface_point.Goals.{After-surface_point_with-answer, In-At, Start}
+use Rattle.ups.proofs.ups_surface_point.Goals.{After-surface_point_with, In-Ok, Start}
 
 -- what the call answered
-module _ (c : After-surface_point_with-answer) where
+module _ (c : After-surface_point_with) where
   abbrev start : Start
-  start = (goal.at.After-surface_point_with-answer c).Start
+  start = (goal.at.After-surface_point_with c).Start
 
   abbrev out : List ℤ
   out = start.args.out.now
@@ -29,18 +29,14 @@ module _ (c : After-surface_point_with-answer) where
   abbrev point : List ℤ
   point = surface_point start.args.net.now start.args.w start.args.h start.args.p start.args.q
 
-  outcome : {n : ℕ} {l : List ℤ} → point_outcome c.surface_point_with-answer.result ≡ (n, l) →
-      ◌≡◌ {A = ℕ × List ℤ} (n, l) (refusal, cond (accepted refusal) point [])
-  outcome e = sym e ∙ c.surface_point_with-answer.ensures
-
 -- of an answer with a point
-module _ (c : In-At) where
-  abbrev call : After-surface_point_with-answer
-  call = (goal.at.In-At c).After-surface_point_with-answer
+module _ (c : In-Ok) where
+  abbrev call : After-surface_point_with
+  call = (goal.at.In-Ok c).After-surface_point_with
 
-  answer : (let at = c.in-At.point in
+  answer : (let at = c.in-Ok.point in
       ◌≡◌ {A = ℕ × List ℤ} (0, at.x ∷ at.y ∷ at.z ∷ []) (refusal call, cond (accepted (refusal call)) (point call) []))
-  answer = outcome call (ap point_outcome c.in-At.is)
+  answer = c.in-Ok.ensures
 
   fits : 3 ≤ length (out call)
   fits =
@@ -48,10 +44,10 @@ module _ (c : In-At) where
       point_room a.net.now a.w a.h a.p a.q (length (out call))
       (answered (refusal call) (point call) answer).0
 
-pub returns-in-At : goal.returns-in-At
-returns-in-At c =
-    let p = (let a = (goal.at.returns-in-At c).In-At in
-    let at = a.in-At.point in
+pub returns-in-Ok : goal.returns-in-Ok
+returns-in-Ok c =
+    let p = (let a = (goal.at.returns-in-Ok c).In-Ok in
+    let at = a.in-Ok.point in
     let held = c.struct_told-1.given in
     point_exported (refusal (call a)) (point (call a)) (out (call a)) (answer a)
     (stored_point at.x at.y at.z (out (call a)) held.0.1 held.1.0.1 held.1.1.0.1 (fits a)

@@ -15,10 +15,10 @@ use Rattle.writer.specs.Answers.{write_outcome}
 use Rattle.writer.proofs.WriteLaws.{write_fits}
 use Rattle.ups.proofs.Exports.{exported}
 use Rattle.ups.proofs.ups_write.Goals as goal
-use Rattle.ups.proofs.ups_write.Goals.{After-write_with-answer, In-Written}
+use Rattle.ups.proofs.ups_write.Goals.{After-write_with, In-Ok}
 
 -- the answer
-module _ (c : After-write_with-answer) where
+module _ (c : After-write_with) where
   abbrev net : List ℤ
   net = c.args.net.now
 
@@ -47,19 +47,19 @@ module _ (c : After-write_with-answer) where
       (or_none (ltb (length counts) 1) (no_room w h (length out)) (write_fits net w h short none)).0
 
 -- an accepted one
-module _ (c : In-Written) where
-  abbrev at : After-write_with-answer
-  at = (goal.at.In-Written c).After-write_with-answer
+module _ (c : In-Ok) where
+  abbrev at : After-write_with
+  at = (goal.at.In-Ok c).After-write_with
 
-  outcome : ◌≡◌ {A = ℕ × List ℕ} (0, c.in-Written.n ∷ [])
+  outcome : ◌≡◌ {A = ℕ × List ℕ} (0, c.in-Ok.n ∷ [])
       (refusal at, cond (accepted (refusal at)) (file_size (w at) (h at) ∷ []) [])
-  outcome = sym (ap write_outcome c.in-Written.is) ∙ at.write_with-answer.ensures.result_value
+  outcome = c.in-Ok.ensures.result_value
 
   count_fits : 1 ≤ length (counts at)
   count_fits = room at (answered (refusal at) (file_size (w at) (h at) ∷ []) outcome).0
 
-pub returns-in-Written : goal.returns-in-Written
-returns-in-Written c =
+pub returns-in-Ok : goal.returns-in-Ok
+returns-in-Ok c =
     let p = (let k = at c in
     exported (refusal k) (file_size (w k) (h k) ∷ []) (counts k) (net_file (net k) (w k) (h k)) (out k) (outcome c)
-    (count_fits c) refl k.write_with-answer.ensures.out_after) in record { value = p.0; out_after = p.1.0; written_after = p.1.1 }
+    (count_fits c) refl k.write_with.ensures.out_after) in record { value = p.0; out_after = p.1.0; written_after = p.1.1 }

@@ -8,15 +8,16 @@ use lib.IntN.{ℤ}
 use Rattle.exact.specs.WeightedSum.{Within}
 use Rattle.exact.specs.Filling.{over, runs}
 use Rattle.net.specs.Net.{Triangle, triangle_at}
+use Rattle.net.proofs.Results.{refusal_there}
 use Rattle.triangles.specs.Corners.{values_in}
 use Rattle.bezier.specs.Weights.{points_of, three_at}
 use Rattle.bezier.specs.Refusals.{bezier_refusal}
 use Rattle.bezier.proofs.BezierNets.{GoodTriangle, good_triangle, formed, formed_within, reordered_values, points_of_net, accepted_bezier, refused_bezier}
 use Rattle.bezier.proofs.bezier.bezier_net.Goals as goal
-use Rattle.bezier.proofs.bezier.bezier_net.Goals.{After-reorder_controls-c, Else-refusal-ne0}
+use Rattle.bezier.proofs.bezier.bezier_net.Goals.{After-reorder_controls-c, In_ok-bezier_refusal}
 
 -- where nothing is refused
-module _ (c : Else-refusal-ne0) where
+module _ (c : In_ok-bezier_refusal) where
   abbrev net : List ℤ
   net = c.args.net.now
 
@@ -39,7 +40,7 @@ module _ (c : Else-refusal-ne0) where
   out = c.args.out.now
 
   none : bezier_refusal net w h i j down (length out) ≡ 0
-  none = sym c.bezier_refusal-refusal.ensures ∙ c.if-refusal-ne0.false
+  none = sym c.in_ok-bezier_refusal.ensures
 
   good : GoodTriangle net w i j down (length out)
   good = good_triangle net w h i j down (length out) none
@@ -52,8 +53,8 @@ module _ (c : Else-refusal-ne0) where
 
 -- what the reordered control triangles hold
 module _ (c : After-reorder_controls-c) where
-  abbrev at : Else-refusal-ne0
-  at = (goal.at.After-reorder_controls-c c).Else-refusal-ne0
+  abbrev at : In_ok-bezier_refusal
+  at = (goal.at.After-reorder_controls-c c).In_ok-bezier_refusal
 
   value : (x : ℕ) → values_in c.reorder_controls-c.result x ≡ formed (net at) (w at) (triangle at) x
   value =
@@ -65,9 +66,9 @@ module _ (c : After-reorder_controls-c) where
   points : (x : ℕ) → points_of (values_in c.reorder_controls-c.result x) ≡ points_of (formed (net at) (w at) (triangle at) x)
   points x = ap points_of (value x)
 
-pub returns-then-refusal-ne0 : goal.returns-then-refusal-ne0
-returns-then-refusal-ne0 c =
-    let p = (refused_bezier _ _ _ _ _ _ _ c.bezier_refusal-refusal.ensures c.if-refusal-ne0.true) in record { result_value = p.0; out_after = p.1 }
+pub returns-in_err-bezier_refusal-clause-out_after : goal.returns-in_err-bezier_refusal-clause-out_after
+returns-in_err-bezier_refusal-clause-out_after c =
+    (refused_bezier _ _ _ _ _ _ _ c.in_err-bezier_refusal.ensures (refusal_there _)).1
 
 pub load_triangle-requires : goal.load_triangle-requires
 load_triangle-requires c = (good c).lies

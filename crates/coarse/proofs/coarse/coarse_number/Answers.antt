@@ -13,16 +13,16 @@ use Rattle.exact.proofs.SignedCode.{reads_as}
 use Rattle.net.specs.Refusals.{net_limit}
 use Rattle.coarse.proofs.CoarseLaws.{code_weights, coarse_quotient, coarse_few}
 use Rattle.coarse.proofs.coarse.coarse_number.Goals as goal
-use Rattle.coarse.proofs.coarse.coarse_number.Goals.{After-weighted_sum3}
+use Rattle.coarse.proofs.coarse.coarse_number.Goals.{After-weighted_sum}
 
 -- the sum, of the numbers that were given
-sum : (c : After-weighted_sum3) →
+sum : (c : After-weighted_sum) →
     (let a = c.args in
-    to_z w64 (of_z w64 c.weighted_sum3.result) ≡ weighted_sum code_weights (a.c ∷ a.a ∷ a.b ∷ []))
+    to_z w64 (of_z w64 c.weighted_sum.result) ≡ weighted_sum code_weights (a.c ∷ a.a ∷ a.b ∷ []))
 sum c =
     let s = c in
-    reads_as w64 c.weighted_sum3.result c.weighted_sum3.type_inv
-    (c.weighted_sum3.ensures.sum
+    reads_as w64 c.weighted_sum.result c.weighted_sum.type_inv
+    (c.weighted_sum.ensures.sum
     ∙ (λ t. weighted_sum code_weights
     (to_z-of_z s.ranges.c t ∷ to_z-of_z s.ranges.a t ∷ to_z-of_z s.ranges.b t ∷ [])))
 
@@ -40,4 +40,4 @@ pub returns : goal.returns
 returns c =
     let a = c.args in
     reads_as w32 c.round_even_narrow.result c.round_even_narrow.type_inv
-    (c.round_even_narrow.ensures ∙ ap (λ (z : ℤ). rounded z 6) (sum (goal.at.returns c).After-weighted_sum3) ∙ coarse_quotient a.c a.a a.b)
+    (c.round_even_narrow.ensures ∙ ap (λ (z : ℤ). rounded z 6) (sum (goal.at.returns c).After-weighted_sum) ∙ coarse_quotient a.c a.a a.b)

@@ -4,4 +4,4 @@ use Rattle.details.proofs.ranges.details_beyond.Goals as goal
 
 pub returns : goal.returns
 unfolding details_beyond
-returns c = c.first_outside.ensures
+returns c = c.any_outside.ensures

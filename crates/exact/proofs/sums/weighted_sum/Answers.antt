@@ -15,12 +15,13 @@ use Rattle.exact.specs.WeightedSum.{weighted_sum, Within}
 use Rattle.exact.proofs.Expressions.{Expr, var, ◌⊕◌, ◌⊗◌, plus, times}
 use Rattle.exact.proofs.Sizes.{size_of_fits, reach_bound}
 use Rattle.exact.proofs.SignedCode.{Leaf, of_number, of_bits, of_narrow, reads_exact, operation_fits}
+use Rattle.exact.proofs.sums.weighted_sum.Given.{Over}
 use Rattle.exact.proofs.sums.weighted_sum.Goals as goal
 use Rattle.exact.proofs.sums.weighted_sum.Goals.{After-v-1}
 
 -- the next weight and value, and the three leaves of an iteration: the sum so far, the weight, and the value cast to an
 -- i64
-module _ (c : After-v-1) where
+module _ {g : Over} (c : After-v-1 g) where
   abbrev w : ℤ
   w = c.in-Some.field-0-0.now
 
@@ -52,14 +53,14 @@ module _ (c : After-v-1) where
   next = var 0 ⊕ var 1 ⊗ var 2
 
 pub overflow_mul-sum : goal.overflow_mul-sum
-overflow_mul-sum c = operation_fits (leaves c) times (var 1) (var 2) tt
+overflow_mul-sum g c = operation_fits (leaves c) times (var 1) (var 2) tt
 
 pub overflow_add-sum : goal.overflow_add-sum
-overflow_add-sum c = operation_fits (leaves c) plus (var 0) (var 1 ⊗ var 2) tt
+overflow_add-sum g c = operation_fits (leaves c) plus (var 0) (var 1 ⊗ var 2) tt
 
 pub loop-w-preserved : goal.loop-w-preserved
 unfolding weighted_sum
-loop-w-preserved c =
+loop-w-preserved g c =
     let sum = to_z w64 c.loop-w.sum-bits in
     let reads = reads_exact (leaves c) (next c) tt in
     let rest = weighted_sum c.next.new.self.a.rest.now c.next.new.self.b.rest.now in
@@ -83,7 +84,7 @@ none_left (w ∷ ws) [] e = refl
 none_left (w ∷ ws) (v ∷ vs) e = absurd (⊎_elim (λ h. omega (arith, h)) (λ h. omega (arith, h)) e)
 
 pub returns : goal.returns
-returns c =
+returns g c =
     let sum = to_z w64 c.loop-w.sum-bits in
     let ws = c.loop-w.w-iterator.a.rest.now in
     let vs = c.loop-w.w-iterator.b.rest.now in

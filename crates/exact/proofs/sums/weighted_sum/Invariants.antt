@@ -8,11 +8,11 @@ use Rattle.exact.specs.WeightedSum.{weighted_sum, Within}
 use Rattle.exact.proofs.sums.weighted_sum.Given as goal
 
 abbrev pub invariant-loop-w : goal.invariant-loop-w
-invariant-loop-w l =
+invariant-loop-w g l =
     let ws = l.w-iterator.a.rest.now in
     let vs = l.w-iterator.b.rest.now in
     record {
-      sum : l.sum +ℤ weighted_sum ws vs ≡ weighted_sum l.weights l.values;
+      sum : l.sum +ℤ weighted_sum ws vs ≡ weighted_sum l.fn.weights l.fn.values;
       size : nat_abs l.sum + length ws * 2 ^ 57 ≤ 9 * 2 ^ 57;
       small : Within (2 ^ 26) ws;
     }

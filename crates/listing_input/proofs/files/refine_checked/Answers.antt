@@ -6,8 +6,11 @@ use Prim.Native.Nat.{ℕ}
 use lib.IntN.{ℤ}
 use lib.ListN.{length, get_or}
 use Rattle.exact.specs.Filling.{over}
+use Rattle.std.proofs.Common.{Result}
+use Rattle.net.specs.declared.refusals.Refusal.{Refusal}
 use Rattle.net.specs.Refusals.{bad_size, output_after, AcceptedNet}
 use Rattle.net.proofs.Faults.{answered, accepted_answer, refused_answer, when_accepted, when_refused}
+use Rattle.net.proofs.Results.{handed_on, refusal_there}
 use Rattle.net.proofs.Places.{GoodSize, good_size}
 use Rattle.subdivision.specs.Refinement.{refined_side}
 use Rattle.steps.specs.RefinedNet.{refined_net}
@@ -15,10 +18,10 @@ use Rattle.refine.specs.Refusals.{too_short, refine_refusal}
 use Rattle.words.specs.NetFile.{file_width, file_height, file_numbers}
 use Rattle.reader.specs.Refusals.{read_refusal, short_for}
 use Rattle.reader.proofs.ReadLaws.{read_parts, good_head}
-use Rattle.listing_input.specs.Printed.{list_refusal, step_refusal, refined_file}
+use Rattle.listing_input.specs.Printed.{list_outcome, ReadyToList, list_refusal, step_refusal, refined_file}
 use Rattle.listing_input.proofs.FileLaws.{refusal_after, refusal_first, refined_after_lem, accepted_after}
 use Rattle.listing_input.proofs.files.refine_checked.Goals as goal
-use Rattle.listing_input.proofs.files.refine_checked.Goals.{After-scratch-2-1, Start}
+use Rattle.listing_input.proofs.files.refine_checked.Goals.{Start}
 
 module _ (s : Start) where
   abbrev file : List ℕ
@@ -61,35 +64,29 @@ module _ (s : Start) where
   first : step_refusal s.args.w s.args.h (length refined) ≡ refusal
   first = (λ t. step_refusal (wide t) (high t) (length refined)) ∙ refusal_first file net (length refined) known.0
 
-pub returns-then-refusal-ne0 : goal.returns-then-refusal-ne0
-returns-then-refusal-ne0 c =
-    let s = (goal.at.returns-then-refusal-ne0 c).Start in
-    let same = c.step_refusal-refusal.ensures ∙ first s in
-    let there : refusal s ≡ 0 → ⊥ = λ z. c.if-refusal-ne0.true (same ∙ z) in
+pub returns-in_err-step_refusal : goal.returns-in_err-step_refusal
+returns-in_err-step_refusal c =
+    let s = (goal.at.returns-in_err-step_refusal c).Start in
+    let same = c.in_err-step_refusal.ensures ∙ first s in
+    let there : refusal s ≡ 0 → ⊥ = λ z. refusal_there _ (same ∙ z) in
+    let met = handed_on c.from_residual.result c.from_residual.ensures.1 in
     record {
-      answered = refused_answer (refusal s) (sides s) same c.if-refusal-ne0.true;
+      answered = ap list_outcome met ∙ refused_answer (refusal s) (sides s) same (refusal_there _);
       net_read = when_refused (refusal s) (over (file_numbers (file s)) (net s)) (net s) there;
       net_refined = when_refused (refusal s) (over (refined_file (file s)) (refined s)) (refined s) there;
-      ready = tt;
+      ready = subst (λ (r : Result (ℕ × ℕ) Refusal). ReadyToList r (refined s)) (sym met) tt;
     }
-
--- where the call began, of what is known when it ends
-abbrev start : After-scratch-2-1 → Start
-start c = (goal.at.After-scratch-2-1 c).Start
 
 pub returns : goal.returns
 returns c =
-    let a = c in
-    let refining = c in
-    let s = start c in
+    let s = (goal.at.returns c).Start in
     let w = refined_side (file_width (file s)) in
     let h = refined_side (file_height (file s)) in
     let room = length (refined s) in
-    let none : refusal s ≡ 0 = sym (a.step_refusal-refusal.ensures ∙ first s)
-    ∙ a.if-refusal-ne0.false in
-    let read = a.read.ensures.net_after in
+    let none : refusal s ≡ 0 = sym (c.in_ok-step_refusal.ensures ∙ first s) in
+    let read = c.read.ensures.net_after in
     let left =
-    refining.refine.ensures.out_after
+    c.refine.ensures.out_after
     ∙ (λ t. output_after (refine_refusal (read t) (wide s t) (high s t) 1 (too_short (wide s t) (high s t) 1 room 0))
     (refined_net (read t) (wide s t) (high s t) 1) (refined s))
     ∙ (λ t. output_after (refusal_after (file s) (net s) room (known s).0 t)

@@ -10,20 +10,18 @@ use lib.ListN.{length}
 use lib.Signed.{mag}
 use mir.Syntax.{w32}
 use mir.Val.{to_z, of_z}
-use borrow.Author.Rules.{rules}
 use Rattle.exact.proofs.Sizes.{size_of_fits}
 use Rattle.exact.proofs.SignedCode.{reads_back, reads_as}
 use Rattle.net.proofs.Places.{GoodSize, good_size}
 use Rattle.surface.specs.SurfacePoint.{coordinate}
 use Rattle.surface.specs.Refusals.{point_refusal}
-use Rattle.surface.specs.Answers.{point_outcome}
 use Rattle.decimal.proofs.StoringLaws.{stored_as, stored_line}
 use Rattle.listing_text.specs.Listing.{head_line, point_line, piece_text, longest_line}
 use Rattle.listing_text.proofs.LineLaws.{head_length, point_length}
 use Rattle.listing_text.proofs.PieceLaws.{vertex_accepted, point_outcome_lem, not_refused, vertex_column, vertex_row, first_piece, vertex_piece}
 use Rattle.surface.specs.declared.answers.Point.{Point}
 use Rattle.listing_text.proofs.pieces.list_piece.Goals as goal
-use Rattle.listing_text.proofs.pieces.list_piece.Goals.{After-struct_told-in-At-2-1, Else-n-eq0, Start}
+use Rattle.listing_text.proofs.pieces.list_piece.Goals.{After-struct_told-in-Ok-2-1, Else-n-eq0, Start}
 
 -- the sides of an accepted net
 size : (c : Start) → GoodSize c.args.w c.args.h
@@ -80,19 +78,18 @@ module _ (c : Else-n-eq0) where
   taken = vertex_accepted net w h start.requires.0 i j column row
 
 -- its line, with the numbers as they are handed on
-module _ (c : After-struct_told-in-At-2-1) where
+module _ (c : After-struct_told-in-Ok-2-1) where
   abbrev e : Else-n-eq0
-  e = (goal.at.After-struct_told-in-At-2-1 c).Else-n-eq0
+  e = (goal.at.After-struct_told-in-Ok-2-1 c).Else-n-eq0
 
   abbrev point : Point
-  point = c.in-At.point
+  point = c.in-Ok.point
 
   outcome : (point.x ≡ coordinate (net e) (w e) (h e) (p e) (q e) 0)
       × (point.y ≡ coordinate (net e) (w e) (h e) (p e) (q e) 1)
       × (point.z ≡ coordinate (net e) (w e) (h e) (p e) (q e) 2)
   outcome =
-      point_outcome_lem (net e) (w e) (h e) (p e) (q e) (taken e)
-      (sym (ap point_outcome c.in-At.is) ∙ c.surface_point-answer.ensures)
+      point_outcome_lem (net e) (w e) (h e) (p e) (q e) (taken e) c.in-Ok.ensures
 
   abbrev held : ℤ → ℤ
   held z = to_z w32 (of_z w32 z)
@@ -102,7 +99,7 @@ module _ (c : After-struct_told-in-At-2-1) where
 
   line_is : line ≡ piece_text (net e) (w e) (h e) (n e)
   line_is =
-      let fits = c.struct_told-in-At-2-1.given in
+      let fits = c.struct_told-in-Ok-2-1.given in
       let x = reads_as w32 point.x fits.0.1 outcome.0 in
       let y = reads_as w32 point.y fits.1.0.1 outcome.1 in
       let z = reads_as w32 point.z fits.1.1.0.1 outcome.2 in
@@ -116,7 +113,7 @@ module _ (c : After-struct_told-in-At-2-1) where
 
   short : length line ≤ longest_line
   short =
-      let fits = c.struct_told-in-At-2-1.given in
+      let fits = c.struct_told-in-Ok-2-1.given in
       let s = size (start e) in
       point_length (i e) (j e) (held point.x) (held point.y) (held point.z) (omega (arith, column e, s.narrow)) (omega (arith, row e, s.low))
       (small point.x fits.0.1) (small point.y fits.1.0.1) (small point.z fits.1.1.0.1)
@@ -137,20 +134,15 @@ returns-then-n-eq0 c =
 pub store_point_line-requires : goal.store_point_line-requires
 store_point_line-requires c = le_trans (short c) (start (e c)).requires.2
 
-pub enum_told-1 : goal.enum_told-1
-enum_told-1 c = search rules
-
-pub returns-in-At : goal.returns-in-At
-returns-in-At c =
-    let p = (let k = (goal.at.returns-in-At c).After-struct_told-in-At-2-1 in
+pub returns-in-Ok : goal.returns-in-Ok
+returns-in-Ok c =
+    let p = (let k = (goal.at.returns-in-Ok c).After-struct_told-in-Ok-2-1 in
     stored_line (stored_as {xs =
     line k} c.store_point_line.ensures (line_is k))
     (omega (arith, sym (ap length (line_is k)), short k)) (start (e k)).requires.2) in record { out_after = p.0; value = p.1.0; upper_bound = p.1.1 }
 
 -- no point is refused
-pub returns-in-Refused : goal.returns-in-Refused
-returns-in-Refused c =
-    let e = (goal.at.returns-in-Refused c).Else-n-eq0 in
-    absurd
-    (not_refused (net e) (w e) (h e) (p e) (q e) (taken e)
-    (sym (ap point_outcome c.in-Refused.is) ∙ c.surface_point-answer.ensures))
+pub returns-in-Err : goal.returns-in-Err
+returns-in-Err c =
+    let e = (goal.at.returns-in-Err c).Else-n-eq0 in
+    absurd (not_refused (net e) (w e) (h e) (p e) (q e) (taken e) c.in-Err.ensures)

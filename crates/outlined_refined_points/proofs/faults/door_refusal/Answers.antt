@@ -10,12 +10,11 @@ use Rattle.net.proofs.Faults.{Clear, none_clear, or_none}
 use Rattle.places.specs.Refusals.{no_place}
 use Rattle.outline.specs.Refusals.{short_outline, outlined_faults}
 use Rattle.steps.specs.Steps.{Depth}
-use Rattle.bounds.specs.DemandThree.{fine_edge}
 use Rattle.refine.proofs.Depths.{good_depth}
 use Rattle.refined_points.proofs.EdgeCounts.{edge_bounds, same_grid}
 use Rattle.outlined_refined_points.specs.Refusals.{off_door}
 use Rattle.outlined_refined_points.proofs.faults.door_refusal.Goals as goal
-use Rattle.outlined_refined_points.proofs.faults.door_refusal.Goals.{Else-refusal-ne0, Start}
+use Rattle.outlined_refined_points.proofs.faults.door_refusal.Goals.{In_ok-outlined_refusal, Start}
 
 module _ (s : Start) where
   abbrev given : List Fault
@@ -28,17 +27,17 @@ module _ (s : Start) where
   depth = good_depth s.args.w s.args.h s.args.k s.requires.0 s.requires.1
 
 -- 2 and 13 do not refuse
-clear : (c : Else-refusal-ne0) → Clear (given (goal.at.Else-refusal-ne0 c).Start)
+clear : (c : In_ok-outlined_refusal) → Clear (given (goal.at.In_ok-outlined_refusal c).Start)
 clear c =
-    none_clear (given (goal.at.Else-refusal-ne0 c).Start) (lit< tt, (lit< tt, tt))
-    (sym c.outlined_refusal-refusal.ensures ∙ c.if-refusal-ne0.false)
+    none_clear (given (goal.at.In_ok-outlined_refusal c).Start) (lit< tt, (lit< tt, tt))
+    (sym c.in_ok-outlined_refusal.ensures)
 
 pub on_door-requires : goal.on_door-requires
 on_door-requires c =
     let s = (goal.at.on_door-requires c).Start in
     let a = s.args in
     let d = depth s in
-    let k = clear (goal.at.on_door-requires c).Else-refusal-ne0 in
+    let k = clear (goal.at.on_door-requires c).In_ok-outlined_refusal in
     let bounds = edge_bounds a.k d.few in
     let e = c.fine_edge.ensures in (
       s.requires.0,

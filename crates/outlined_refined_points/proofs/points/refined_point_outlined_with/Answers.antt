@@ -5,15 +5,17 @@ use mathlib.Core.List.{List}
 use Prim.Native.Nat.{ℕ}
 use native.Mathlib.Omega.{arith}
 use lib.Dec.{lit<}
+use Rattle.std.proofs.lemmas.Result.{err_from_is_err_and}
 use Rattle.net.specs.Refusals.{Fault, first_fault}
-use Rattle.net.proofs.Faults.{Numbered, fault_before}
+use Rattle.net.proofs.Faults.{Numbered}
+use Rattle.net.proofs.Results.{refusal_there, refused_before}
 use Rattle.outline.proofs.Searching.{search_kept, search_free_lem}
 use Rattle.outlined_refine.specs.Refusals.{late_faults}
 use Rattle.outlined_refine.proofs.CallLaws.{refused_apart, refused_range}
 use Rattle.outlined_refined_points.specs.Answers.{point_faults_of, outlined_refusal_at}
 use Rattle.outlined_refined_points.proofs.CallLaws.{PointSearchable, searchable_at, plain_point_refusal, refused_contract, plain_contract}
 use Rattle.outlined_refined_points.proofs.points.refined_point_outlined_with.Goals as goal
-use Rattle.outlined_refined_points.proofs.points.refined_point_outlined_with.Goals.{Else-refusal-ne0, Start}
+use Rattle.outlined_refined_points.proofs.points.refined_point_outlined_with.Goals.{In_ok-refusal_before, Start}
 
 module _ (s : Start) where
   abbrev before : List Fault
@@ -35,12 +37,12 @@ module _ (s : Start) where
   numbered = (lit< tt, (lit< tt, (lit< tt, (lit< tt, (lit< tt, (lit< tt, (lit< tt, tt)))))))
 
 -- no fault before 14 is there
-module _ (c : Else-refusal-ne0) where
+module _ (c : In_ok-refusal_before) where
   abbrev begun : Start
-  begun = (goal.at.Else-refusal-ne0 c).Start
+  begun = (goal.at.In_ok-refusal_before c).Start
 
   none : first_fault (before begun) ≡ 0
-  none = sym c.refusal_before-refusal.ensures ∙ c.if-refusal-ne0.false
+  none = sym c.in_ok-refusal_before.ensures
 
   ready : (let a = begun.args in PointSearchable a.net.now a.w a.h a.k a.outline.now a.p a.q
       a.out.now a.scratch.now a.fine.now a.search.now)
@@ -49,25 +51,26 @@ module _ (c : Else-refusal-ne0) where
       searchable_at a.net.now a.w a.h a.k a.outline.now a.p a.q a.short a.out.now
       a.scratch.now a.fine.now a.search.now none
 
-pub returns-then-refusal-ne0 : goal.returns-then-refusal-ne0
-returns-then-refusal-ne0 c =
-    let s = (goal.at.returns-then-refusal-ne0 c).Start in
+pub returns-in_err-refusal_before : goal.returns-in_err-refusal_before
+returns-in_err-refusal_before c =
+    let s = (goal.at.returns-in_err-refusal_before c).Start in
     let a = s.args in
-    let e = c.refusal_before-refusal.ensures in
-    let first = e ∙ fault_before (before s) (late s) (λ z. c.if-refusal-ne0.true (e ∙ z)) in
-    refused_contract a.net.now a.w a.h a.k a.outline.now a.p a.q a.short a.out.now
-    a.scratch.now a.fine.now a.search.now first c.if-refusal-ne0.true a.search.now
-    (search_kept (before s) a.w a.h a.search.now)
+    let p = err_from_is_err_and c.from_residual.result c.from_residual.ensures.1 in
+    rw (p.1, p.2)
+    (refused_contract a.net.now a.w a.h a.k a.outline.now a.p a.q a.short a.out.now
+    a.scratch.now a.fine.now a.search.now (refused_before _ (before s) (late s) c.in_err-refusal_before.ensures)
+    (refusal_there _) a.search.now
+    (search_kept (before s) a.w a.h a.search.now))
 
 pub is_connected-requires : goal.is_connected-requires
 is_connected-requires c =
-    let r = (ready (goal.at.is_connected-requires c).Else-refusal-ne0).parts in
+    let r = (ready (goal.at.is_connected-requires c).In_ok-refusal_before).parts in
     (r.size, r.bytes, r.search)
 
 pub returns-then-not-is_connected : goal.returns-then-not-is_connected
 returns-then-not-is_connected c =
     let call = c in
-    let e = (goal.at.returns-then-not-is_connected c).Else-refusal-ne0 in
+    let e = (goal.at.returns-then-not-is_connected c).In_ok-refusal_before in
     let s = begun e in
     let a = s.args in
     let apart = refused_apart a.net.now a.w a.h a.outline.now (before s) (numbered s) (none e)
@@ -82,7 +85,7 @@ returns c =
     let both = c in
     let decided = c in
     let call = c in
-    let e = (goal.at.returns c).Else-refusal-ne0 in
+    let e = (goal.at.returns c).In_ok-refusal_before in
     let s = begun e in
     let a = s.args in
     let same = sym (plain_point_refusal a.net.now a.w a.h a.k a.outline.now a.p a.q a.out.now

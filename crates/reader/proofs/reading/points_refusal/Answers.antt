@@ -1,21 +1,22 @@
 -- `reader::reading::points_refusal` meets its contract: where the file ends in a control point, that one is refused.
-use mathlib.Core.Path.{◌≡◌, ap, ◌∙◌}
+use mathlib.Core.Path.{◌≡◌, sym, ap, ◌∙◌}
 use mathlib.Core.List.{List}
 use Prim.Native.Nat.{ℕ, ◌+◌, ◌-◌, ◌*◌, ◌/◌, ◌<◌, min}
 use native.Mathlib.Omega.{arith}
 use lib.ListN.{length, length-drop}
 use Rattle.exact.specs.Filling.{runs}
 use Rattle.net.specs.Refusals.{Fault, first_fault}
+use Rattle.net.specs.Results.{refused}
+use Rattle.net.proofs.Results.{handed_on, refusal_there}
 use Rattle.net.proofs.Faults.{fault_in_front, fault_in_runs}
 use Rattle.words.specs.NetFile.{from_point, head_size, point_size}
 use Rattle.reader.specs.Refusals.{point_faults}
 use Rattle.reader.proofs.Parsing.{passes, point_numbered, point_long, part_from}
 use Rattle.reader.proofs.ReadLaws.{points_numbered}
 use Rattle.reader.proofs.reading.points_refusal.Goals as goal
-use Rattle.reader.proofs.reading.points_refusal.Goals.{After-point_refusal, After-whole_points_refusal-refusal}
+use Rattle.reader.proofs.reading.points_refusal.Goals.{After-min-whole, After-point_refusal}
 
--- the control points that are whole were looked through
-module _ (c : After-whole_points_refusal-refusal) where
+module _ (c : After-min-whole) where
   abbrev file : List ℕ
   file = c.args.file.now
 
@@ -33,17 +34,17 @@ module _ (c : After-whole_points_refusal-refusal) where
 
 -- and the one after them, which is cut
 module _ (c : After-point_refusal) where
-  abbrev at : After-whole_points_refusal-refusal
-  at = (goal.at.After-point_refusal c).After-whole_points_refusal-refusal
+  abbrev at : After-min-whole
+  at = (goal.at.After-point_refusal c).After-min-whole
 
-  outcome : c.point_refusal.result ≡ first_fault (faults at (whole at))
+  outcome : refused c.point_refusal.result ≡ first_fault (faults at (whole at))
   outcome =
       c.point_refusal.ensures
       ∙ ap (λ (l : List ℕ). first_fault (point_faults l)) (part_from (file at) (head_size + point_size * whole at))
 
-  refused : c.point_refusal.result ≡ 0 → ⊥
-  refused z =
-      let k = passes (faults at (whole at)) (point_numbered (from_point (file at) (whole at))) outcome z in
+  there : refused c.point_refusal.result ≡ 0 → ⊥
+  there z =
+      let k = passes (faults at (whole at)) (point_numbered (from_point (file at) (whole at))) (sym z ∙ outcome) in
       let last : whole at < n at = c.if-whole-n.true in
       omega (
         arith,
@@ -54,16 +55,16 @@ module _ (c : After-point_refusal) where
             (head_size + point_size * whole at) (file at),
       )
 
-pub returns-then-refusal-ne0 : goal.returns-then-refusal-ne0
-returns-then-refusal-ne0 c =
-    let k = (goal.at.returns-then-refusal-ne0 c).After-whole_points_refusal-refusal in
-    fault_in_front (whole k) (n k) (faults k) (omega (arith, fewer k)) k.whole_points_refusal-refusal.ensures
-    c.if-refusal-ne0.true
+pub returns-in_err-whole_points_refusal : goal.returns-in_err-whole_points_refusal
+returns-in_err-whole_points_refusal c =
+    let k = (goal.at.returns-in_err-whole_points_refusal c).After-min-whole in
+    ap refused (handed_on c.from_residual.result c.from_residual.ensures.1)
+    ∙ fault_in_front (whole k) (n k) (faults k) (omega (arith, fewer k)) c.in_err-whole_points_refusal.ensures
+    (refusal_there _)
 
 pub returns-then-whole-n : goal.returns-then-whole-n
 returns-then-whole-n c =
     let k = at c in
     fault_in_runs (n k) (faults k) (whole k) c.if-whole-n.true
-    (passes (runs (whole k) (faults k)) (points_numbered (file k) (whole k)) k.whole_points_refusal-refusal.ensures
-    c.if-refusal-ne0.false)
-    (outcome c) (refused c)
+    (passes (runs (whole k) (faults k)) (points_numbered (file k) (whole k)) c.in_ok-whole_points_refusal.ensures)
+    (outcome c) (there c)

@@ -1,5 +1,5 @@
 -- `reader::reading::read_with` meets its contract.
-use mathlib.Core.Path.{◌≡◌, sym, ap, ◌∙◌}
+use mathlib.Core.Path.{◌≡◌, ap}
 use mathlib.Core.Bool.{Bool, ◌||◌}
 use mathlib.Core.List.{List, [], ◌∷◌}
 use Prim.Native.Nat.{ℕ, ◌+◌, ◌*◌, ◌≤◌}
@@ -11,15 +11,14 @@ use Rattle.net.proofs.Places.{good_size, few_vertices}
 use Rattle.net.proofs.Faults.{answered, clear_parts}
 use Rattle.words.specs.NetFile.{from_point, file_width, file_height, points, head_size, point_size}
 use Rattle.reader.specs.Refusals.{point_faults, end_faults, read_refusal, short_for}
-use Rattle.reader.specs.Answers.{read_outcome}
 use Rattle.reader.proofs.ReadLaws.{GoodHead, good_head, read_parts, points_there}
 use Rattle.reader.proofs.reading.read_with.Goals as goal
-use Rattle.reader.proofs.reading.read_with.Goals.{In-Size, Start}
+use Rattle.reader.proofs.reading.read_with.Goals.{In_ok-w, Start}
 
 -- an accepted file
-module _ (c : In-Size) where
+module _ (c : In_ok-w) where
   abbrev start : Start
-  start = (goal.at.In-Size c).Start
+  start = (goal.at.In_ok-w c).Start
 
   abbrev file : List ℕ
   file = start.args.file.now
@@ -31,15 +30,15 @@ module _ (c : In-Size) where
   short = start.args.short || short_for file (length net)
 
   abbrev w : ℕ
-  w = c.in-Size.w
+  w = c.in_ok-w.w
 
   abbrev h : ℕ
-  h = c.in-Size.h
+  h = c.in_ok-w.h
 
   found : (read_refusal file short ≡ 0) × (◌≡◌ {A = List ℕ} (w ∷ h ∷ []) (file_width file ∷ file_height file ∷ []))
   found =
       answered (read_refusal file short) (file_width file ∷ file_height file ∷ [])
-      (sym (ap read_outcome c.in-Size.is) ∙ c.check_file-found.ensures)
+      c.in_ok-w.ensures
 
   good : GoodHead file (length net)
   good = good_head file start.args.short (length net) (read_parts file short found.0).0
@@ -61,5 +60,5 @@ module _ (c : In-Size) where
 
 pub load_points-requires : goal.load_points-requires
 load_points-requires c =
-    let k = (goal.at.load_points-requires c).In-Size in
+    let k = (goal.at.load_points-requires c).In_ok-w in
     (omega (arith, there k), omega (arith, (good k).room_enough, product k))

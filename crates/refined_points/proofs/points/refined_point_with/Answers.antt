@@ -15,7 +15,7 @@ use Rattle.refine.proofs.CallLaws.{left_accepted}
 use Rattle.refined_points.specs.Answers.{refusal_at, refined_surface_point}
 use Rattle.refined_points.proofs.RefinedPoints.{point_accepted, point_answered, point_of_refined, answer_claimed}
 use Rattle.refined_points.proofs.points.refined_point_with.Goals as goal
-use Rattle.refined_points.proofs.points.refined_point_with.Goals.{Else-refusal-ne0, Start}
+use Rattle.refined_points.proofs.points.refined_point_with.Goals.{In_ok-refusal_at, Start}
 
 abbrev refusal : Start → ℕ
 refusal s =
@@ -29,12 +29,12 @@ abbrev values : Start → List ℤ
 values s = refined_surface_point s.args.net.now s.args.w s.args.h s.args.k s.args.p s.args.q
 
 -- nothing is refused
-module _ (c : Else-refusal-ne0) where
-  none : refusal (goal.at.Else-refusal-ne0 c).Start ≡ 0
-  none = sym c.refusal_at-refusal.ensures ∙ c.if-refusal-ne0.false
+module _ (c : In_ok-refusal_at) where
+  none : refusal (goal.at.In_ok-refusal_at c).Start ≡ 0
+  none = sym c.in_ok-refusal_at.ensures
 
   taken :
-      (let s = (goal.at.Else-refusal-ne0 c).Start in
+      (let s = (goal.at.In_ok-refusal_at c).Start in
       Refinable s.args.net.now s.args.w s.args.h s.args.k (length s.args.out.now)
       (length s.args.scratch.now)
       × OnGrid 1024 (side_after s.args.k s.args.w) (side_after s.args.k s.args.h) s.args.p
@@ -47,7 +47,7 @@ module _ (c : Else-refusal-ne0) where
 
 pub returns : goal.returns
 returns c =
-    let e = (goal.at.returns c).Else-refusal-ne0 in
+    let e = (goal.at.returns c).In_ok-refusal_at in
     let s = (goal.at.returns c).Start in
     let a = s.args in
     let t = taken e in

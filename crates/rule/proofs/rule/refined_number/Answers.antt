@@ -26,7 +26,7 @@ use Rattle.exact.proofs.WeightedSumLaws.{AllBetween, all_in_range, within_more}
 use Rattle.subdivision.specs.WeightTable.{sum, good_row}
 use Rattle.subdivision.proofs.Tables.{good_length, good_sum, total_sum, not_negative}
 use Rattle.rule.proofs.rule.refined_number.Goals as goal
-use Rattle.rule.proofs.rule.refined_number.Goals.{After-weighted_mean6}
+use Rattle.rule.proofs.rule.refined_number.Goals.{After-weighted_mean}
 
 -- no weight is above the sum of a row
 within_sum : (row : List ℕ) → Within (sum row) (map pos row)
@@ -53,33 +53,32 @@ mean_fits row values us e long h =
     (length-map row pos ∙ good_length row e ∙ sym long) (not_negative row) (i32s values us h)) in
     fits_between r.0 (≤ℤ-<ℤ-trans r.1 (omega integers))
 
-module _ (c : After-weighted_mean6) where
-  exact : c.weighted_mean6.result
+module _ (c : After-weighted_mean) where
+  exact : c.weighted_mean.result
       ≡ rounded (weighted_sum (map pos c.args.row) c.args.values) 12
   exact =
-      c.weighted_mean6.ensures
+      c.weighted_mean.ensures
       ∙ ap (λ (ws : List ℤ). rounded (weighted_sum ws c.args.values) 12)
       c.widened.ensures
 
-  fits : SFits w32 (to_z w64 (of_z w64 c.weighted_mean6.result))
+  fits : SFits w32 (to_z w64 (of_z w64 c.weighted_mean.result))
   fits =
       let s = c in
       let g = s.well_formed.1.0 in
-      subst (SFits w32) (sym exact ∙ sym (reads_back w64 c.weighted_mean6.result c.weighted_mean6.type_inv))
+      subst (SFits w32) (sym exact ∙ sym (reads_back w64 c.weighted_mean.result c.weighted_mean.type_inv))
       (mean_fits s.args.row s.args.values g.0 s.requires g.1.0.1 g.1.1)
 
-pub weighted_mean6-requires : goal.weighted_mean6-requires
-weighted_mean6-requires c =
+pub weighted_mean-requires : goal.weighted_mean-requires
+weighted_mean-requires c =
     let row = c.args.row in
-    let few : sum row ≤ 67108864 = omega (arith, good_sum row c.requires) in (
-      subst (Within 67108864) (sym c.widened.ensures)
-          (within_more (sum row) 67108864 few (map pos row) (within_sum row)),
-      lit< tt,
-      lit≤ tt,
-    )
+    let few : sum row ≤ 67108864 = omega (arith, good_sum row c.requires) in
+    let small =
+    subst (Within 67108864) (sym c.widened.ensures)
+    (within_more (sum row) 67108864 few (map pos row) (within_sum row)) in
+    (lit< tt, (lit< tt, (small, lit≤ tt, lit< tt, lit≤ tt)))
 
 pub overflow_cast-result : goal.overflow_cast-result
 overflow_cast-result c = fits c
 
 pub returns : goal.returns
-returns c = to_z-of_z (fits c) ∙ reads_as w64 c.weighted_mean6.result c.weighted_mean6.type_inv (exact c)
+returns c = to_z-of_z (fits c) ∙ reads_as w64 c.weighted_mean.result c.weighted_mean.type_inv (exact c)

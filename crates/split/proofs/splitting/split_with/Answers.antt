@@ -12,7 +12,7 @@ use Rattle.split.specs.Split.{details_against, net_details}
 use Rattle.split.specs.Answers.{split_refusal_with}
 use Rattle.split.proofs.SplitLaws.{Splittable, split_accepted, coarse_taken, own_details}
 use Rattle.split.proofs.splitting.split_with.Goals as goal
-use Rattle.split.proofs.splitting.split_with.Goals.{Start, Then-refusal-eq0}
+use Rattle.split.proofs.splitting.split_with.Goals.{Start, In_ok-split_refusal}
 
 abbrev refusal : Start → ℕ
 refusal s =
@@ -20,9 +20,9 @@ refusal s =
     s.args.details.now
 
 -- nothing is refused
-module _ (c : Then-refusal-eq0) where
-  none : refusal (goal.at.Then-refusal-eq0 c).Start ≡ 0
-  none = sym c.split_refusal-refusal.ensures ∙ c.if-refusal-eq0.true
+module _ (c : In_ok-split_refusal) where
+  none : refusal (goal.at.In_ok-split_refusal c).Start ≡ 0
+  none = sym c.in_ok-split_refusal.ensures
 
   taken : (let a = c.args in Splittable a.net.now a.w a.h (length a.coarse.now) (length a.details.now))
   taken =
@@ -31,7 +31,7 @@ module _ (c : Then-refusal-eq0) where
 
 pub store_differences-requires : goal.store_differences-requires
 store_differences-requires c =
-    let e = (goal.at.store_differences-requires c).Then-refusal-eq0 in
+    let e = (goal.at.store_differences-requires c).In_ok-split_refusal in
     let a = e.args in
     let t = taken e in (
       t.given,
@@ -42,10 +42,10 @@ store_differences-requires c =
       t.enough,
     )
 
-pub returns-then-refusal-eq0 : goal.returns-then-refusal-eq0
-returns-then-refusal-eq0 c =
-    let e = (goal.at.returns-then-refusal-eq0 c).Then-refusal-eq0 in
-    let s = (goal.at.returns-then-refusal-eq0 c).Start in
+pub returns : goal.returns
+returns c =
+    let e = (goal.at.returns c).In_ok-split_refusal in
+    let s = (goal.at.returns c).Start in
     let a = s.args in
     let coarse = c.store_coarse.ensures in
     record {

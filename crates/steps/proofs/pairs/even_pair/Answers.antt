@@ -4,6 +4,7 @@ use mathlib.Core.List.{List}
 use mathlib.Core.Path.{◌≡◌, refl, sym, subst, ◌∙◌}
 use Prim.Native.Nat.{ℕ, ◌+◌, ◌*◌, ◌≤◌, ◌<◌}
 use native.Mathlib.Omega.{arith}
+use lib.Dec.{lit<, lit≤}
 use lib.IntN.{ℤ}
 use lib.ListN.{length}
 use Rattle.net.specs.Net.{vertex_at, start, stride, control_triangle}
@@ -42,11 +43,12 @@ kept_triangle-requires c =
     let s = (goal.at.kept_triangle-requires c).Start in
     small s _ _ s.requires.column s.requires.row c.load-a.ensures
 
-pub triangle_along1-requires : goal.triangle_along1-requires
-triangle_along1-requires c =
+pub edge_triangle-requires : goal.edge_triangle-requires
+edge_triangle-requires c =
     let first = c in
-    let s = (goal.at.triangle_along1-requires c).Start in
-    (small s _ _ s.requires.column s.requires.row first.load-a.ensures, small s _ _ c.if-m-w.true s.requires.row c.load-b.ensures)
+    let s = (goal.at.edge_triangle-requires c).Start in
+    let near = small s _ _ s.requires.column s.requires.row first.load-a.ensures in
+    (lit≤ tt, lit< tt, near, small s _ _ c.if-m-w.true s.requires.row c.load-b.ensures)
 
 pub returns-then-m-w : goal.returns-then-m-w
 returns-then-m-w c =
@@ -57,10 +59,10 @@ returns-then-m-w c =
     let pair = c in
     let taken = pair.if-m-w.true in
     c.store_triangle-then-m-w.ensures
-    ∙ (λ t. three_points (first.store_triangle.ensures t) (a.at + stride) pair.triangle_along1.result)
+    ∙ (λ t. three_points (first.store_triangle.ensures t) (a.at + stride) pair.edge_triangle.result)
     ∙ stored_two a.net.now a.w (2 * a.n) a.m a.out.now a.at (kept_at load first.kept_triangle.ensures) taken
     (made_by_kind a.net.now a.w (2 * a.m + 1) (2 * a.n) a.m a.n true false (omega arith) (omega arith)
-    (odd_double a.m) (even_double a.n) pair.triangle_along1.ensures load.load-a.ensures pair.load-b.ensures)
+    (odd_double a.m) (even_double a.n) pair.edge_triangle.ensures load.load-a.ensures pair.load-b.ensures)
 
 pub returns-else-m-w : goal.returns-else-m-w
 returns-else-m-w c =

@@ -4,6 +4,7 @@ use mathlib.Core.List.{List}
 use mathlib.Core.Path.{◌≡◌, sym, subst, ◌∙◌}
 use Prim.Native.Nat.{ℕ, ◌+◌, ◌*◌, ◌≤◌, ◌<◌}
 use native.Mathlib.Omega.{arith}
+use lib.Dec.{lit<, lit≤}
 use lib.IntN.{ℤ}
 use lib.ListN.{length}
 use Rattle.net.specs.Net.{vertex_at, start, stride, control_triangle}
@@ -14,7 +15,7 @@ use Rattle.steps.specs.Steps.{three_points}
 use Rattle.steps.proofs.RefinedVertices.{even_double, odd_double, made_by_kind}
 use Rattle.steps.proofs.PairedRows.{stored_one, stored_two}
 use Rattle.steps.proofs.pairs.odd_pair.Goals as goal
-use Rattle.steps.proofs.pairs.odd_pair.Goals.{After-triangle_along3, Start}
+use Rattle.steps.proofs.pairs.odd_pair.Goals.{After-edge_triangle, Start}
 
 -- a vertex of the net lies in the slice, and its numbers in the net range
 module _ (s : Start) (i j : ℕ) (a : i < s.args.w) (b : j < s.args.h) where
@@ -26,29 +27,33 @@ module _ (s : Start) (i j : ℕ) (a : i < s.args.w) (b : j < s.args.h) where
       subst (ControlsWithin net_limit) (sym e)
       (accepted_vertex s.args.net.now s.args.w s.args.h s.requires.0.given i j a b).1
 
-pub triangle_along3-requires : goal.triangle_along3-requires
-triangle_along3-requires c =
-    let s = (goal.at.triangle_along3-requires c).Start in (
+pub edge_triangle-requires : goal.edge_triangle-requires
+edge_triangle-requires c =
+    let s = (goal.at.edge_triangle-requires c).Start in (
+      lit≤ tt,
+      lit< tt,
       small s _ _ s.requires.0.column s.requires.1 c.load-c.ensures,
       small s _ _ s.requires.0.column s.requires.0.row c.load-a.ensures,
     )
 
-pub triangle_along2-requires : goal.triangle_along2-requires
-triangle_along2-requires c =
+pub edge_triangle-requires-then-m-w : goal.edge_triangle-requires-then-m-w
+edge_triangle-requires-then-m-w c =
     let upper = c in
-    let s = (goal.at.triangle_along2-requires c).Start in (
+    let s = (goal.at.edge_triangle-requires-then-m-w c).Start in (
+      lit≤ tt,
+      lit< tt,
       small s _ _ c.if-m-w.true s.requires.0.row c.load-b.ensures,
       small s _ _ s.requires.0.column s.requires.1 upper.load-c.ensures,
     )
 
 -- the first of the two
-along3_at : (c : After-triangle_along3) →
+first_at : (c : After-edge_triangle) →
     (let a = c.args in
-    c.triangle_along3.result ≡ refined_controls a.net.now a.w (vertex_at (2 * a.m) (2 * a.n + 1)))
-along3_at c =
+    c.edge_triangle.result ≡ refined_controls a.net.now a.w (vertex_at (2 * a.m) (2 * a.n + 1)))
+first_at c =
     let a = c.args in
     made_by_kind a.net.now a.w (2 * a.m) (2 * a.n + 1) a.m a.n false true (omega arith) (omega arith)
-    (even_double a.m) (odd_double a.n) c.triangle_along3.ensures c.load-c.ensures
+    (even_double a.m) (odd_double a.n) c.edge_triangle.ensures c.load-c.ensures
     c.load-a.ensures
 
 pub returns-then-m-w : goal.returns-then-m-w
@@ -58,11 +63,11 @@ returns-then-m-w c =
     let a = upper.args in
     let pair = c in
     c.store_triangle-then-m-w.ensures
-    ∙ (λ t. three_points (first.store_triangle.ensures t) (a.at + stride) pair.triangle_along2.result)
-    ∙ stored_two a.net.now a.w (2 * a.n + 1) a.m a.out.now a.at (along3_at (goal.at.returns-then-m-w c).After-triangle_along3)
+    ∙ (λ t. three_points (first.store_triangle.ensures t) (a.at + stride) pair.edge_triangle-then-m-w.result)
+    ∙ stored_two a.net.now a.w (2 * a.n + 1) a.m a.out.now a.at (first_at (goal.at.returns-then-m-w c).After-edge_triangle)
     pair.if-m-w.true
     (made_by_kind a.net.now a.w (2 * a.m + 1) (2 * a.n + 1) a.m a.n true true (omega arith) (omega arith)
-    (odd_double a.m) (odd_double a.n) pair.triangle_along2.ensures pair.load-b.ensures
+    (odd_double a.m) (odd_double a.n) pair.edge_triangle-then-m-w.ensures pair.load-b.ensures
     upper.load-c.ensures)
 
 pub returns-else-m-w : goal.returns-else-m-w
@@ -70,5 +75,5 @@ returns-else-m-w c =
     let first = c in
     let a = first.args in
     first.store_triangle.ensures
-    ∙ stored_one a.net.now a.w (2 * a.n + 1) a.m a.out.now a.at (along3_at (goal.at.returns-else-m-w c).After-triangle_along3)
+    ∙ stored_one a.net.now a.w (2 * a.n + 1) a.m a.out.now a.at (first_at (goal.at.returns-else-m-w c).After-edge_triangle)
     c.if-m-w.false

@@ -15,10 +15,10 @@ use Rattle.triangles.proofs.CornerForm.{arranged, arranged_corners}
 use Rattle.surface.specs.Evaluation.{Evaluable, evaluated}
 use Rattle.surface.proofs.SurfacePoints.{GoodPlace, good_place, range_refusal, accepted_point, share_small, in_order_of, evaluable, evaluated_coordinate, in_net_place}
 use Rattle.surface.proofs.points.surface_point_with.Goals as goal
-use Rattle.surface.proofs.points.surface_point_with.Goals.{After-load_corner-t, After-locate-at, After-put_in_order-o, After-triangle_beyond, Else-refusal-ne0}
+use Rattle.surface.proofs.points.surface_point_with.Goals.{After-load_corner-t, After-locate-at, After-put_in_order-o, After-triangle_beyond, In_ok-place_refusal}
 
 -- where 1, 6 and 2 do not refuse
-module _ (c : Else-refusal-ne0) where
+module _ (c : In_ok-place_refusal) where
   abbrev net : List ℤ
   net = c.args.net.now
 
@@ -38,12 +38,12 @@ module _ (c : Else-refusal-ne0) where
   short = c.args.short
 
   good : GoodPlace net w h p q
-  good = good_place net w h p q (sym c.place_refusal-refusal.ensures ∙ c.if-refusal-ne0.false)
+  good = good_place net w h p q (sym c.in_ok-place_refusal.ensures)
 
 -- the cell, the kind and the shares that were found are those of the place
 module _ (c : After-locate-at) where
-  abbrev at : Else-refusal-ne0
-  at = (goal.at.After-locate-at c).Else-refusal-ne0
+  abbrev at : In_ok-place_refusal
+  at = (goal.at.After-locate-at c).In_ok-place_refusal
 
   abbrev found : Triangle
   found = triangle_at c.locate-at.result.i c.locate-at.result.j c.locate-at.result.down
@@ -69,7 +69,7 @@ beyond c =
 loaded : (c : After-locate-at) → corner_controls (net (at c)) (w (at c)) (found c) ≡ corner_controls (net (at c)) (w (at c)) (place c)
 loaded c = ap (corner_controls (net (at c)) (w (at c))) (found_place c)
 
-abbrev shares_of : Else-refusal-ne0 → Index → ℕ
+abbrev shares_of : In_ok-place_refusal → Index → ℕ
 shares_of e = share 1024 (w e) (h e) (p e) (q e)
 
 in_order_lem : (c : After-put_in_order-o) →

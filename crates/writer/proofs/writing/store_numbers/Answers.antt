@@ -3,7 +3,6 @@ use mathlib.Core.Path.{◌≡◌, sym, ap, ◌∙◌, subst}
 use mathlib.Core.List.{List}
 use Prim.Native.Nat.{ℕ, ◌+◌, ◌≤◌, ◌<◌}
 use native.Mathlib.Omega.{arith}
-use lib.Dec.{lit<}
 use lib.ListN.{length}
 use lib.Seq.{sets, length-sets}
 use lib.IntN.{ℤ, nat_abs}
@@ -78,13 +77,13 @@ module _ (c : After-store_number-2) where
 
 pub store_number-requires : goal.store_number-requires
 store_number-requires c =
-    let k = (goal.at.store_number-requires c).After-z-1 in (lit< tt, small k (from k) (omega arith) (read_x k), omega (arith, room k))
+    let k = (goal.at.store_number-requires c).After-z-1 in
+    (small k (from k) (omega arith) (read_x k), omega (arith, room k))
 
 pub store_number-requires-2 : goal.store_number-requires-2
 store_number-requires-2 c =
     let v = (goal.at.store_number-requires-2 c).After-store_number in
     let k = w v in (
-      lit< tt,
       small k (from k + 1) (omega arith) (read_y k),
       omega
           (arith, room k, ap length (one v), length-sets (out k) (at k) (number_bytes x_kind (x k))),
@@ -94,7 +93,6 @@ pub store_number-requires-3 : goal.store_number-requires-3
 store_number-requires-3 c =
     let u = (goal.at.store_number-requires-3 c).After-store_number-2 in
     let k = w (v u) in (
-      lit< tt,
       small k (from k + 2) (omega arith) (read_z k),
       omega (
         arith,

@@ -16,10 +16,10 @@ use Rattle.words.specs.NetFile.{net_file, file_size}
 use Rattle.writer.specs.Refusals.{write_refusal, no_room}
 use Rattle.writer.proofs.WriteLaws.{GoodNet, good_net, cut_file}
 use Rattle.writer.proofs.writing.write_with.Goals as goal
-use Rattle.writer.proofs.writing.write_with.Goals.{Then-refusal-eq0}
+use Rattle.writer.proofs.writing.write_with.Goals.{In_ok-write_refusal}
 
 -- where nothing is refused
-module _ (c : Then-refusal-eq0) where
+module _ (c : In_ok-write_refusal) where
   abbrev net : List ℤ
   net = c.args.net.now
 
@@ -36,7 +36,7 @@ module _ (c : Then-refusal-eq0) where
   short = c.args.short || no_room w h (length out)
 
   none : write_refusal net w h short ≡ 0
-  none = sym c.write_refusal-refusal.ensures ∙ c.if-refusal-eq0.true
+  none = sym c.in_ok-write_refusal.ensures
 
   good : GoodNet net w h (length out)
   good = good_net net w h c.args.short (length out) none
@@ -52,7 +52,7 @@ module _ (c : Then-refusal-eq0) where
 
 pub store_file-requires : goal.store_file-requires
 store_file-requires c =
-    let k = (goal.at.store_file-requires c).Then-refusal-eq0 in
+    let k = (goal.at.store_file-requires c).In_ok-write_refusal in
     let g = good k in (
       g.size,
       omega (arith, ap length (part k), length-take (numbers (w k) (h k)) (net k), g.long),
@@ -60,14 +60,11 @@ store_file-requires c =
       ap any_beyond (part k) ∙ g.range,
     )
 
-pub returns-then-refusal-eq0 : goal.returns-then-refusal-eq0
-returns-then-refusal-eq0 c =
-    let k = (goal.at.returns-then-refusal-eq0 c).Then-refusal-eq0 in record {
-      result_value = accepted_answer (write_refusal (net k) (w k) (h k) (short k)) (file_size (w k) (h k) ∷ []) (none k)
-          (ap (λ (n : ℕ). n ∷ []) c.file_size-count.ensures);
-      out_after = c.store_file.ensures
-          ∙ ap (λ (l : List ℕ). over l (out k))
-          (ap (λ (l : List ℤ). net_file l (w k) (h k)) (part k) ∙ cut_file (net k) (w k) (h k))
-          ∙ when_accepted (write_refusal (net k) (w k) (h k) (short k)) (over (net_file (net k) (w k) (h k)) (out k))
-          (out k) (none k);
-    }
+pub returns-clause-out_after : goal.returns-clause-out_after
+returns-clause-out_after c =
+    let k = (goal.at.returns-clause-out_after c).In_ok-write_refusal in
+    c.store_file.ensures
+    ∙ ap (λ (l : List ℕ). over l (out k))
+    (ap (λ (l : List ℤ). net_file l (w k) (h k)) (part k) ∙ cut_file (net k) (w k) (h k))
+    ∙ when_accepted (write_refusal (net k) (w k) (h k) (short k)) (over (net_file (net k) (w k) (h k)) (out k)) (out k)
+    (none k)

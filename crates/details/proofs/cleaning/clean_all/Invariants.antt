@@ -1,10 +1,10 @@
--- `details::cleaning::clean_first` meets its contract: the details so far are cleaned, the others are as they were.
+-- `details::cleaning::clean_all` meets its contract: the details so far are cleaned, the others are as they were.
 use mathlib.Core.Path.{◌≡◌}
 use mathlib.Core.List.{map}
 use lib.ListN.{take}
 use Rattle.exact.specs.Filling.{over}
 use Rattle.details.specs.Cleaning.{cleaned}
-use Rattle.details.proofs.cleaning.clean_first.Given as goal
+use Rattle.details.proofs.cleaning.clean_all.Given as goal
 
 abbrev pub invariant-loop-z : goal.invariant-loop-z
 invariant-loop-z l =

@@ -1,12 +1,12 @@
--- `details::cleaning::clean_first` meets its contract: the details so far are cleaned, the others are as they were.
+-- `details::cleaning::clean_all` meets its contract: the details so far are cleaned, the others are as they were.
 use mathlib.Core.Path.{◌≡◌, refl, sym, ap, ◌∙◌}
 use mathlib.Core.List.{List, [], ◌∷◌, ◌++◌, map, append-nil}
 use Prim.Native.Nat.{ℕ, zero, suc, ◌<◌, ◌≤◌}
 use native.Mathlib.Nat.{le_of_suc-le-suc, not-suc-le-zero}
 use native.Mathlib.Numerals.{add-one}
 use native.Mathlib.Omega.{arith}
-use lib.ListN.{length, set, take, drop, length-map, drop_of_length-le}
-use lib.Seq.{length-take-le, take_all}
+use lib.ListN.{length, set, take, length-map, drop_of_length-le}
+use lib.Seq.{take_all}
 use lib.IntN.{ℤ}
 use mir.Syntax.{w32}
 use borrow.Author.Rules.{rules}
@@ -14,7 +14,7 @@ use Rattle.exact.specs.Filling.{over}
 use Rattle.exact.proofs.SignedCode.{reads_back, reads_as}
 use Rattle.net.specs.Net.{number}
 use Rattle.details.specs.Cleaning.{cleaned}
-use Rattle.details.proofs.cleaning.clean_first.Goals as goal
+use Rattle.details.proofs.cleaning.clean_all.Goals as goal
 
 -- where the numbers before i are changed by f, the one at i is still the old one, and storing it changed is one more
 module _ (f : ℤ → ℤ) where
@@ -38,7 +38,7 @@ loop-z-init c = refl
 pub loop-z-preserved : goal.loop-z-preserved
 loop-z-preserved c =
     let at = c.loop-z in
-    let old = take c.args.n c.args.details.now in
+    let old = c.args.details.now in
     let f = cleaned c.args.t in
     let i = at.z-index in
     let here : i < length old = omega arith in
@@ -54,14 +54,10 @@ unfolding over
 over_all new old h = ap (λ (l : List ℤ). new ++ l) (drop_of_length-le old h) ∙ append-nil new
 
 pub returns : goal.returns
-unfolding over
 returns c =
     let at = c.loop-z in
-    let details = c.args.details.now in
-    let old = take c.args.n details in
+    let old = c.args.details.now in
     let f = cleaned c.args.t in
-    let size : length (map f old) ≡ c.args.n = length-map old f ∙ length-take-le c.args.n details c.requires.0 in
-    let cleaned_all : at.z-items ≡ map f old = at.invariant
+    at.invariant
     ∙ ap (λ (l : List ℤ). over (map f l) old) (take_all at.z-index old (omega arith))
-    ∙ over_all (map f old) old (omega (arith, length-map old f)) in
-    λ u. cleaned_all u ++ drop (sym size u) details
+    ∙ over_all (map f old) old (omega (arith, length-map old f))

@@ -1,7 +1,0 @@
-// What merging answers. `specs/Answers.antt` gives document 01's number of each case.
-
-#[derive(Clone, Copy)]
-pub enum MergeAnswer {
-    Done,
-    Refused(u32),
-}

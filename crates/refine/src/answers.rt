@@ -1,7 +1,0 @@
-// What refining answers. `specs/Answers.antt` gives document 01's number of each case.
-
-#[derive(Clone, Copy)]
-pub enum RefineAnswer {
-    Done,
-    Refused(u32),
-}
