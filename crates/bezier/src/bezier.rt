@@ -2,14 +2,13 @@
 ghost use Rattle.std.specs.Prelude.{◌≡◌, false, map, ℕ, ◌≤◌, ◌<◌, length};
 ghost use Rattle.exact.specs.WeightedSum.{weighted_sum, Within};
 ghost use Rattle.exact.specs.Filling.{over, runs};
-ghost use Rattle.net.specs.Refusals.{bad_size};
 ghost use Rattle.net.specs.Results.{refused, call_outcome};
 ghost use Rattle.triangles.specs.Corners.{values_in};
 ghost use Rattle.bezier.specs.Refusals.{no_triangle, bezier_refusal};
 ghost use Rattle.bezier.specs.Answers.{bezier_answer, bezier_output};
 ghost use Rattle.bezier.specs.Weights.{bezier_rows, points_of, terms_at, SmallTerms, joined_terms, placed, three_at};
 
-use net::{Refusal, bad_size, short_net};
+use net::{Refusal, Size, short_net};
 use triangles::{coordinate_values, load_triangle, reorder_controls, triangle_beyond};
 
 // What the points share at a corner, in one coordinate: multiples of document 01's points there. They are formed once,
@@ -122,12 +121,15 @@ fn write_points(controls: [[[i32; 3]; 3]; 3], out: &mut [i32])
     }
 }
 
-// Whether cell (i, j) is not in the grid. Also for the crates above; they test the size first.
-pub fn no_triangle(w: usize, h: usize, i: usize, j: usize) -> bool
-    requires { bad_size w h ≡ false }
-    ensures { result ≡ no_triangle w h i j }
+// Whether cell (i, j) is not in the grid. Also for the crates above.
+pub fn no_triangle(size: Size, i: usize, j: usize) -> bool
+    ensures { result ≡ no_triangle size.w size.h i j }
 {
-    if w - 1 <= i { true } else { h - 1 <= j }
+    if size.w - 1 <= i {
+        true
+    } else {
+        size.h - 1 <= j
+    }
 }
 
 // The first fault, 1, 6, 2, 5 or 3. `room` is the length of the output.
@@ -142,13 +144,11 @@ fn bezier_refusal(
 ) -> Result<(), Refusal>
     ensures { refused result ≡ bezier_refusal net.now w h i j down room }
 {
-    if bad_size(w, h) {
-        return Err(Refusal::Size);
-    }
-    if no_triangle(w, h, i, j) {
+    let size = Size::new(w, h)?;
+    if no_triangle(size, i, j) {
         return Err(Refusal::Place);
     }
-    if short_net(net, w, h) {
+    if short_net(net, size) {
         return Err(Refusal::Short);
     }
     if room < 57 {

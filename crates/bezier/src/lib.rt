@@ -5,5 +5,5 @@ mod bezier;
 
 pub use bezier::bezier_net;
 
-// For the crates above, which have refused every other size.
+// For the crates above: no preconditions.
 pub use bezier::no_triangle;

@@ -7,7 +7,7 @@ ghost use Rattle.details.specs.Cleaning.{cleaned, clean_answer, clean_output};
 use crate::ranges::details_beyond;
 use crate::records::DETAIL_STRIDE;
 use crate::sizes::{even_size, short_details};
-use net::{Refusal, bad_size};
+use net::{Refusal, Size};
 
 // Whether a threshold is above the range of details.
 pub fn too_great(t: u32) -> bool
@@ -43,19 +43,17 @@ fn clean_all(details: &mut [i32], t: u32)
 fn clean_refusal(details: &[i32], w: usize, h: usize, t: u32) -> Result<(), Refusal>
     ensures { refused result ≡ clean_refusal details.now w h t }
 {
-    if bad_size(w, h) {
-        return Err(Refusal::Size);
-    }
+    let size = Size::new(w, h)?;
     if even_size(w, h) {
         return Err(Refusal::Even);
     }
     if too_great(t) {
         return Err(Refusal::Threshold);
     }
-    if short_details(details, w, h) {
+    if short_details(details, size) {
         return Err(Refusal::Short);
     }
-    if details_beyond(details, w, h) {
+    if details_beyond(details, size) {
         return Err(Refusal::Range);
     }
     Ok(())

@@ -1,9 +1,9 @@
 // The sizes that a net may be split at, and the details that it then has.
-ghost use Rattle.std.specs.Prelude.{◌≡◌, false};
-ghost use Rattle.net.specs.Refusals.{bad_size};
+ghost use Rattle.std.specs.Prelude.{◌≡◌};
 ghost use Rattle.details.specs.Refusals.{even_side, even_size, short_details};
 
 use crate::records::DETAIL_STRIDE;
+use net::Size;
 
 // Whether a side has an even count of vertices.
 fn even_side(n: usize) -> bool
@@ -19,10 +19,9 @@ pub fn even_size(w: usize, h: usize) -> bool
     if even_side(w) { true } else { even_side(h) }
 }
 
-// Whether details are shorter than those of an accepted size. For the calls, which test the size first.
-pub fn short_details(details: &[i32], w: usize, h: usize) -> bool
-    requires { bad_size w h ≡ false }
-    ensures { result ≡ short_details details.now w h }
+// Whether details are shorter than those of a size.
+pub fn short_details(details: &[i32], size: Size) -> bool
+    ensures { result ≡ short_details details.now size.w size.h }
 {
-    details.len() < DETAIL_STRIDE * (w * h)
+    details.len() < DETAIL_STRIDE * (size.w * size.h)
 }

@@ -3,5 +3,5 @@
 
 mod cells;
 
-// For the crates above, which have refused every other size, outline and place.
+// For the crates above, which have refused every other outline and place.
 pub use cells::on_door;

@@ -6,15 +6,13 @@ ghost use Rattle.hermite.specs.Answers.{GivenContract};
 
 use crate::nets::{hermite_beyond, store_hermite};
 use crate::records::GIVEN_STRIDE;
-use net::{Refusal, STRIDE, bad_size};
+use net::{Refusal, STRIDE, Size};
 
 // The first fault, 1, 2, 5 or 16.
 fn given_refusal(given: &[i32], w: usize, h: usize, room: usize) -> Result<(), Refusal>
     ensures { refused result ≡ given_refusal given.now w h room }
 {
-    if bad_size(w, h) {
-        return Err(Refusal::Size);
-    }
+    Size::new(w, h)?;
     if given.len() < GIVEN_STRIDE * (w * h) {
         return Err(Refusal::Short);
     }

@@ -6,7 +6,7 @@ ghost use Rattle.net.specs.Results.{refused};
 ghost use Rattle.reader.specs.Answers.{read_answer};
 ghost use Rattle.listing_input.specs.Printed.{step_refusal, RefineFileContract, Buffers};
 
-use net::{Refusal, STRIDE};
+use net::{Refusal, STRIDE, Size};
 use reader::{check_file, read};
 use refine::{refine, size_refusal};
 
@@ -17,12 +17,11 @@ pub const INPUT_SIZE: usize = 65536;
 pub const BUFFER_SIZE: usize = 16384;
 
 // 4 or 5 of one refinement into `room` numbers. One step needs no scratch.
-fn step_refusal(w: usize, h: usize, room: usize) -> Result<(), Refusal>
-    requires { bad_size w h ≡ false }
-    ensures { refused result ≡ step_refusal w h room }
+fn step_refusal(size: Size, room: usize) -> Result<(), Refusal>
+    ensures { refused result ≡ step_refusal size.w size.h room }
 {
-    size_refusal(w, h, 1)?;
-    if room < STRIDE * ((2 * w - 1) * (2 * h - 1)) {
+    size_refusal(size.w, size.h, 1)?;
+    if room < STRIDE * ((2 * size.w - 1) * (2 * size.h - 1)) {
         return Err(Refusal::Room);
     }
     Ok(())
@@ -40,7 +39,7 @@ fn refine_checked(
     ensures { RefineFileContract file.now net.old refined.old result
         net.new refined.new }
 {
-    step_refusal(w, h, refined.len())?;
+    step_refusal(Size { w, h }, refined.len())?;
     let mut scratch = [0i32; 1];
     let _ = read(file, net);
     let _ = refine(net, w, h, 1, refined, &mut scratch);

@@ -8,7 +8,7 @@ ghost use Rattle.merge.specs.Answers.{MergeContract};
 
 use crate::sums::{merged_beyond, store_merged};
 use details::{details_beyond, short_details};
-use net::{Refusal, STRIDE, net_beyond, short_net};
+use net::{Refusal, STRIDE, Size, net_beyond, short_net};
 use refine::size_refusal;
 
 // Whether the coarse net or the details are too short.
@@ -16,10 +16,14 @@ fn short_inputs(coarse: &[i32], details: &[i32], w: usize, h: usize) -> bool
     requires { Depth w h 1 }
     ensures { result ≡ short_inputs coarse.now details.now w h }
 {
-    if short_net(coarse, w, h) {
+    if short_net(coarse, Size { w, h }) {
         return true;
     }
-    short_details(details, 2 * w - 1, 2 * h - 1)
+    let fine = Size {
+        w: 2 * w - 1,
+        h: 2 * h - 1,
+    };
+    short_details(details, fine)
 }
 
 // Whether a coarse number or a detail is beyond its range.
@@ -27,10 +31,14 @@ fn inputs_beyond(coarse: &[i32], details: &[i32], w: usize, h: usize) -> bool
     requires { Depth w h 1 × (short_inputs coarse.now details.now w h ≡ false) }
     ensures { result ≡ inputs_beyond coarse.now details.now w h }
 {
-    if net_beyond(coarse, w, h) {
+    if net_beyond(coarse, Size { w, h }) {
         return true;
     }
-    details_beyond(details, 2 * w - 1, 2 * h - 1)
+    let fine = Size {
+        w: 2 * w - 1,
+        h: 2 * h - 1,
+    };
+    details_beyond(details, fine)
 }
 
 // The first of 2, 5, 3 and 11, of a size that 1 and 4 do not refuse.

@@ -1,6 +1,6 @@
 // Splitting, cleaning and merging in one go: how far a cleaned net moves, held to by the code itself.
 ghost use Rattle.std.specs.Prelude.{◌≡◌, false, [], ◌∷◌, ◌++◌};
-ghost use Rattle.net.specs.Refusals.{first_fault, bad_size};
+ghost use Rattle.net.specs.Refusals.{first_fault};
 ghost use Rattle.net.specs.Results.{refused};
 ghost use Rattle.details.specs.Refusals.{too_great};
 ghost use Rattle.details.specs.Cleaning.{clean_output};
@@ -11,7 +11,7 @@ ghost use Rattle.multiresolution.specs.Calls.{CleanedNet};
 
 use details::{clean, too_great};
 use merge::merge;
-use net::{Refusal, too_short_for};
+use net::{Refusal, Size, too_short_for};
 use split::{odd_refusal, split_with};
 
 // The first of 1, 10 and 12.
@@ -29,18 +29,16 @@ fn threshold_refusal(w: usize, h: usize, t: u32) -> Result<(), Refusal>
 fn clean_and_merge(
     coarse: &[i32],
     details: &mut [i32],
-    w: usize,
-    h: usize,
+    size: Size,
     t: u32,
     out: &mut [i32],
 ) -> Result<(), Refusal>
-    requires { bad_size w h ≡ false }
-    ensures details_after { details.new ≡ clean_output details.old w h t }
-    ensures merge_contract { MergeContract coarse.now (clean_output details.old w h t) (coarse_side w)
-        (coarse_side h) out.old result out.new }
+    ensures details_after { details.new ≡ clean_output details.old size.w size.h t }
+    ensures merge_contract { MergeContract coarse.now (clean_output details.old size.w size.h t)
+        (coarse_side size.w) (coarse_side size.h) out.old result out.new }
 {
-    let _ = clean(details, w, h, t);
-    merge(coarse, details, (w + 1) / 2, (h + 1) / 2, out)
+    let _ = clean(details, size.w, size.h, t);
+    merge(coarse, details, (size.w + 1) / 2, (size.h + 1) / 2, out)
 }
 
 // The coarse net over the front of `coarse`, the details over the front of `details` and cleaned there, and the net
@@ -60,5 +58,5 @@ pub fn clean_net(
     threshold_refusal(w, h, t)?;
     let short = too_short_for(w, h, out.len());
     split_with(net, w, h, short, coarse, details)?;
-    clean_and_merge(coarse, details, w, h, t, out)
+    clean_and_merge(coarse, details, Size { w, h }, t, out)
 }

@@ -15,7 +15,7 @@ pub use vertices::{vertex, vertex_refusal};
 
 // For the crates above: callers establish the preconditions.
 pub use records::{POINT_STRIDE, STRIDE};
-pub use sizes::{bad_side, bad_size, short_net, too_short_for};
+pub use sizes::{Size, bad_side, bad_size, short_net, too_short_for};
 pub use storage::{
     any_beyond, any_outside, controls_beyond, load, load_point, net_beyond, number_beyond,
     store_point, vertex_beyond,

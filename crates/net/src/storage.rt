@@ -1,10 +1,11 @@
 // Control points and control triangles in lent memory: loading and storing them by value, and the test of their range.
-ghost use Rattle.std.specs.Prelude.{◌≡◌, false, ◌+◌, ◌≤◌, length};
+ghost use Rattle.std.specs.Prelude.{◌≡◌, ◌+◌, ◌≤◌, length};
 ghost use Rattle.std.proofs.lemmas.List.Edits.{sets};
 ghost use Rattle.net.specs.Net.{control_point, control_triangle, vertex_at, stride, numbers, start, vertex_numbers};
-ghost use Rattle.net.specs.Refusals.{bad_size, outside, any_outside, beyond, any_beyond, controls_beyond, net_beyond};
+ghost use Rattle.net.specs.Refusals.{outside, any_outside, beyond, any_beyond, controls_beyond, net_beyond};
 
 use crate::records::{POINT_STRIDE, STRIDE};
+use crate::sizes::Size;
 
 // The control point that begins at a place of the net. For the crates above, which have refused every net that is too
 // short.
@@ -96,13 +97,12 @@ pub fn controls_beyond(c: [[i32; 3]; 3]) -> bool
     one | (two | three)
 }
 
-// Whether one of the numbers of a whole net is. For the crates above, which have refused every other size and every net
-// that is too short.
-pub fn net_beyond(net: &[i32], w: usize, h: usize) -> bool
-    requires { (bad_size w h ≡ false) × (numbers w h ≤ length net.now) }
-    ensures { result ≡ net_beyond net.now w h }
+// Whether one of the numbers of a whole net is. For the crates above, which have refused every net that is too short.
+pub fn net_beyond(net: &[i32], size: Size) -> bool
+    requires { numbers size.w size.h ≤ length net.now }
+    ensures { result ≡ net_beyond net.now size.w size.h }
 {
-    let n = STRIDE * (w * h);
+    let n = STRIDE * (size.w * size.h);
     any_beyond(&net[0..n])
 }
 

@@ -5,7 +5,7 @@ ghost use Rattle.net.specs.Results.{refused};
 
 use crate::records::STRIDE;
 use crate::refusals::Refusal;
-use crate::sizes::{bad_size, short_net};
+use crate::sizes::{Size, short_net};
 
 // Whether vertex (i, j) is not in the grid.
 fn no_vertex(w: usize, h: usize, i: usize, j: usize) -> bool
@@ -18,13 +18,11 @@ fn no_vertex(w: usize, h: usize, i: usize, j: usize) -> bool
 pub fn vertex_refusal(net: &[i32], w: usize, h: usize, i: usize, j: usize) -> Result<(), Refusal>
     ensures { refused result ≡ vertex_refusal net.now w h i j }
 {
-    if bad_size(w, h) {
-        return Err(Refusal::Size);
-    }
+    let size = Size::new(w, h)?;
     if no_vertex(w, h, i, j) {
         return Err(Refusal::Place);
     }
-    if short_net(net, w, h) {
+    if short_net(net, size) {
         return Err(Refusal::Short);
     }
     Ok(())

@@ -8,17 +8,15 @@ ghost use Rattle.outline.specs.Answers.{check_answer};
 
 use crate::bytes::{count_triangles, outline_refusal};
 use crate::search::is_connected;
-use net::{Refusal, bad_size};
+use net::{Refusal, Size};
 
 // The first of 1, 2, 13 and 5; `room` is the length of the search.
 fn refusal_before(outline: &[u8], w: usize, h: usize, room: usize) -> Result<(), Refusal>
     ensures { refused result ≡ first_fault (check_faults outline.now w h room) }
 {
-    if bad_size(w, h) {
-        return Err(Refusal::Size);
-    }
-    outline_refusal(outline, w, h)?;
-    if room < count_triangles(w, h) {
+    let size = Size::new(w, h)?;
+    outline_refusal(outline, size)?;
+    if room < count_triangles(size) {
         return Err(Refusal::Room);
     }
     Ok(())
@@ -32,7 +30,7 @@ pub fn check_outline(outline: &[u8], w: usize, h: usize, search: &mut [u32]) -> 
         search.old search.new }
 {
     refusal_before(outline, w, h, search.len())?;
-    if is_connected(outline, w, h, search) {
+    if is_connected(outline, Size { w, h }, search) {
         Ok(())
     } else {
         Err(Refusal::NotConnected)

@@ -2,7 +2,6 @@
 // cell, so that what is joined has one root.
 ghost use Rattle.std.specs.Prelude.{◌≡◌, true, false, ◌+◌, ◌≤◌, ◌<◌, eqb, length};
 ghost use Rattle.exact.specs.Filling.{UnchangedFrom};
-ghost use Rattle.net.specs.Refusals.{bad_size};
 ghost use Rattle.graphs.specs.Walks.{Judged};
 ghost use Rattle.graphs.specs.Links.{Linked, JoinedIf};
 ghost use Rattle.outline.specs.Outline.{triangles};
@@ -11,6 +10,7 @@ ghost use Rattle.outline.specs.Search.{Searched, Joined, InCell, InRow, Anywhere
 
 use crate::bytes::count_triangles;
 use graphs::{join, link_self};
+use net::Size;
 
 // Two bytes, joined where there is such an edge (`inside`) and both are present.
 fn join_present(outline: &[u8], links: &mut [u32], inside: bool, a: usize, b: usize)
@@ -70,24 +70,24 @@ fn one_root(outline: &[u8], links: &[u32]) -> bool
 }
 
 // Whether the present triangles are connected, over one link a triangle.
-fn connected_over(outline: &[u8], w: usize, h: usize, links: &mut [u32]) -> bool
-    requires { (bad_size w h ≡ false) × (triangles w h ≤ length outline.now)
-        × (length links.old ≡ triangles w h) }
-    ensures { Judged (Connected outline.now w h) result }
+fn connected_over(outline: &[u8], size: Size, links: &mut [u32]) -> bool
+    requires { (triangles size.w size.h ≤ length outline.now)
+        × (length links.old ≡ triangles size.w size.h) }
+    ensures { Judged (Connected outline.now size.w size.h) result }
 {
     link_self(links);
-    join_cells(outline, w, h, links);
+    join_cells(outline, size.w, size.h, links);
     one_root(outline, links)
 }
 
 // The same over the front of the search, which is free afterwards. For the calls that check an outline or refine with
-// one, which have refused every bad size and every slice that is too short.
-pub fn is_connected(outline: &[u8], w: usize, h: usize, search: &mut [u32]) -> bool
-    requires { (bad_size w h ≡ false) × (triangles w h ≤ length outline.now)
-        × (triangles w h ≤ length search.old) }
-    ensures value { result ≡ connected outline.now w h }
-    ensures unchanged_from { UnchangedFrom (triangles w h) search.old search.new }
+// one, which have refused every slice that is too short.
+pub fn is_connected(outline: &[u8], size: Size, search: &mut [u32]) -> bool
+    requires { (triangles size.w size.h ≤ length outline.now)
+        × (triangles size.w size.h ≤ length search.old) }
+    ensures value { result ≡ connected outline.now size.w size.h }
+    ensures unchanged_from { UnchangedFrom (triangles size.w size.h) search.old search.new }
 {
-    let n = count_triangles(w, h);
-    connected_over(outline, w, h, &mut search[..n])
+    let n = count_triangles(size);
+    connected_over(outline, size, &mut search[..n])
 }

@@ -8,7 +8,7 @@ ghost use Rattle.outlined_points.specs.Rows.{triangle_faults, AskedTriangle};
 ghost use Rattle.outlined_points.specs.Answers.{outlined_bezier_answer, outlined_bezier_output};
 
 use bezier::{bezier_net, no_triangle};
-use net::{Refusal, bad_size, short_net};
+use net::{Refusal, Size, short_net};
 use outline::outline_refusal;
 
 // The first fault of the net and of the asked triangle, 1, 6 or 2. `down` is a number, as C hands it in: 6 refuses what
@@ -23,13 +23,11 @@ fn triangle_refusal(
 ) -> Result<(), Refusal>
     ensures { refused result ≡ first_fault (triangle_faults net.now w h i j down) }
 {
-    if bad_size(w, h) {
-        return Err(Refusal::Size);
-    }
-    if no_triangle(w, h, i, j) || 1 < down {
+    let size = Size::new(w, h)?;
+    if no_triangle(size, i, j) || 1 < down {
         return Err(Refusal::Place);
     }
-    if short_net(net, w, h) {
+    if short_net(net, size) {
         return Err(Refusal::Short);
     }
     Ok(())
@@ -56,7 +54,7 @@ fn bezier_refusal(
     ensures { refused result ≡ first_fault (bezier_faults net.now w h outline.now i j down) }
 {
     triangle_refusal(net, w, h, i, j, down)?;
-    outline_refusal(outline, w, h)?;
+    outline_refusal(outline, Size { w, h })?;
     if is_present(outline, w, h, i, j, down) {
         Ok(())
     } else {

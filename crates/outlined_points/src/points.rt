@@ -8,7 +8,7 @@ ghost use Rattle.outlined_points.specs.Refusals.{point_faults};
 ghost use Rattle.outlined_points.specs.Answers.{outlined_point_answer, outlined_point_answer_with, outlined_view_answer, outlined_view_answer_with};
 
 use door::on_door;
-use net::Refusal;
+use net::{Refusal, Size};
 use outline::outline_refusal;
 use places::place_refusal;
 use surface::{Point, ViewPoint, surface_point_with};
@@ -25,8 +25,9 @@ fn point_refusal(
     ensures { refused result ≡ first_fault (point_faults net.now w h outline.now p q) }
 {
     place_refusal(net, w, h, p, q)?;
-    outline_refusal(outline, w, h)?;
-    if on_door(outline, w, h, 1024, p, q) {
+    let size = Size { w, h };
+    outline_refusal(outline, size)?;
+    if on_door(outline, size, 1024, p, q) {
         Ok(())
     } else {
         Err(Refusal::OffDoor)

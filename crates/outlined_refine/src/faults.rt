@@ -1,38 +1,32 @@
-// The refusals of refining with an outline that come before the search. Callers establish the preconditions.
-ghost use Rattle.std.specs.Prelude.{◌≡◌, false};
-ghost use Rattle.net.specs.Refusals.{first_fault, bad_size};
+// The refusals of refining with an outline that come before the search.
+ghost use Rattle.std.specs.Prelude.{◌≡◌};
+ghost use Rattle.net.specs.Refusals.{first_fault};
 ghost use Rattle.net.specs.Results.{refused};
-ghost use Rattle.refine.specs.Refusals.{too_deep};
 ghost use Rattle.outlined_refine.specs.Refusals.{outlined_short, faults_before};
 
-use net::Refusal;
+use net::{Refusal, Size};
 use outline::{count_triangles, outlined_refusal};
-use refine::{size_refusal, too_short};
+use refine::{Steps, size_refusal, too_short};
 use steps::side_after;
 
-// Whether the output, the scratch net, the fine outline or the search is too short. For
-// `outlined_refined_points` too, which has refused a size and a k by 1 and 4.
-pub fn outlined_short(
-    w: usize,
-    h: usize,
-    k: usize,
-    room: usize,
-    scratch: usize,
-    fine: usize,
-    search: usize,
-) -> bool
-    requires { (bad_size w h ≡ false) × (too_deep w h k ≡ false) }
-    ensures { result ≡ outlined_short w h k room scratch fine search }
+// Whether the output, the scratch net, the fine outline or the search is too short. Also
+// for `outlined_refined_points`.
+pub fn outlined_short(steps: Steps, room: usize, scratch: usize, fine: usize, search: usize) -> bool
+    ensures { result ≡ outlined_short steps.w steps.h steps.k room scratch fine search }
 {
-    if too_short(w, h, k, room, scratch) {
+    if too_short(steps, room, scratch) {
         return true;
     }
-    let m = side_after(w, k);
-    let n = side_after(h, k);
-    if fine < count_triangles(m, n) {
+    let m = side_after(steps.w, steps.k);
+    let n = side_after(steps.h, steps.k);
+    if fine < count_triangles(Size { w: m, h: n }) {
         return true;
     }
-    search < count_triangles(w, h)
+    let size = Size {
+        w: steps.w,
+        h: steps.h,
+    };
+    search < count_triangles(size)
 }
 
 // The first of 1, 4, 2, 13 and 5.
@@ -51,8 +45,8 @@ pub fn refusal_before(
         (outlined_short w h k room scratch fine search)) }
 {
     size_refusal(w, h, k)?;
-    outlined_refusal(net, w, h, outline)?;
-    if outlined_short(w, h, k, room, scratch, fine, search) {
+    outlined_refusal(net, Size { w, h }, outline)?;
+    if outlined_short(Steps { w, h, k }, room, scratch, fine, search) {
         return Err(Refusal::Room);
     }
     Ok(())

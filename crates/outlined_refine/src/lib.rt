@@ -7,5 +7,5 @@ mod refining;
 // The call of document 02, a: no preconditions.
 pub use refining::refine_outlined;
 
-// For the crates above, which have refused a size and a k by 1 and 4 before.
+// For the crates above: no preconditions.
 pub use faults::outlined_short;

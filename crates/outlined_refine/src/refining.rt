@@ -11,7 +11,7 @@ ghost use Rattle.outlined_refine.specs.Answers.{faults_of, outlined_refusal_of, 
 
 use crate::faults::refusal_before;
 use fine_outline::write_fine_outline;
-use net::Refusal;
+use net::{Refusal, Size};
 use outline::is_connected;
 use refine::refine;
 
@@ -79,7 +79,7 @@ pub fn refine_outlined(
         fine.len(),
         search.len(),
     )?;
-    if !is_connected(outline, w, h, search) {
+    if !is_connected(outline, Size { w, h }, search) {
         return Err(Refusal::NotConnected);
     }
     refine_both(net, w, h, k, outline, out, scratch, fine)

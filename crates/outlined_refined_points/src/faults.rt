@@ -1,19 +1,18 @@
 // The refusals of refining with an outline and then a point that come before the search.
 ghost use Rattle.std.specs.Prelude.{◌≡◌, false, ◌||◌, [], ◌∷◌, ◌++◌, ◌≤◌};
-ghost use Rattle.net.specs.Refusals.{first_fault, bad_size};
+ghost use Rattle.net.specs.Refusals.{first_fault};
 ghost use Rattle.net.specs.Results.{refused};
 ghost use Rattle.outline.specs.Refusals.{outlined_faults};
 ghost use Rattle.bounds.specs.DemandThree.{fine_edge};
-ghost use Rattle.refine.specs.Refusals.{too_deep};
 ghost use Rattle.refined_points.specs.Refusals.{off_grid};
 ghost use Rattle.outlined_refine.specs.Refusals.{outlined_short};
 ghost use Rattle.outlined_refined_points.specs.Refusals.{off_door, point_faults_before};
 
 use door::on_door;
-use net::Refusal;
+use net::{Refusal, Size};
 use outline::outlined_refusal;
 use outlined_refine::outlined_short;
-use refine::size_refusal;
+use refine::{Steps, size_refusal};
 use refined_points::off_grid;
 
 // 1024·2^k: the edge count of the starting net at which places of the refined grid are counted.
@@ -27,19 +26,21 @@ fn fine_edge(k: usize) -> usize
 // The first of 2, 13 and 15. The place is one of the refined grid.
 fn door_refusal(
     net: &[i32],
-    w: usize,
-    h: usize,
-    k: usize,
+    steps: Steps,
     outline: &[u8],
     p: usize,
     q: usize,
 ) -> Result<(), Refusal>
-    requires { (bad_size w h ≡ false) × (too_deep w h k ≡ false) × (off_grid w h k p q ≡ false) }
-    ensures { refused result ≡ first_fault (outlined_faults net.now w h outline.now
-        ++ (off_door k outline.now w h p q, 15) ∷ []) }
+    requires { off_grid steps.w steps.h steps.k p q ≡ false }
+    ensures { refused result ≡ first_fault (outlined_faults net.now steps.w steps.h outline.now
+        ++ (off_door steps.k outline.now steps.w steps.h p q, 15) ∷ []) }
 {
-    outlined_refusal(net, w, h, outline)?;
-    if on_door(outline, w, h, fine_edge(k), p, q) {
+    let size = Size {
+        w: steps.w,
+        h: steps.h,
+    };
+    outlined_refusal(net, size, outline)?;
+    if on_door(outline, size, fine_edge(steps.k), p, q) {
         Ok(())
     } else {
         Err(Refusal::OffDoor)
@@ -65,11 +66,12 @@ pub fn refusal_before(
         (short || outlined_short w h k room scratch fine search)) }
 {
     size_refusal(w, h, k)?;
-    if off_grid(w, h, k, p, q) {
+    let steps = Steps { w, h, k };
+    if off_grid(steps, p, q) {
         return Err(Refusal::Place);
     }
-    door_refusal(net, w, h, k, outline, p, q)?;
-    if short || outlined_short(w, h, k, room, scratch, fine, search) {
+    door_refusal(net, steps, outline, p, q)?;
+    if short || outlined_short(steps, room, scratch, fine, search) {
         return Err(Refusal::Room);
     }
     Ok(())

@@ -12,7 +12,7 @@ ghost use Rattle.outlined_refined_points.specs.Contract.{OutlinedPointContract};
 
 use crate::faults::refusal_before;
 use fine_outline::write_fine_outline;
-use net::Refusal;
+use net::{Refusal, Size};
 use outline::is_connected;
 use refined_points::refined_point;
 use surface::Point;
@@ -77,7 +77,7 @@ pub fn refined_point_outlined_with(
         fine.len(),
         search.len(),
     )?;
-    if !is_connected(outline, w, h, search) {
+    if !is_connected(outline, Size { w, h }, search) {
         return Err(Refusal::NotConnected);
     }
     point_both(net, w, h, k, outline, p, q, out, scratch, fine)

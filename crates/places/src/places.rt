@@ -1,12 +1,11 @@
 // Places in 1,024ths of an edge: the chosen triangle, the shares of its corners, and their order.
 ghost use Rattle.std.specs.Prelude.{◌≡◌, false, ◌-◌, ◌*◌, ◌≤◌};
-ghost use Rattle.net.specs.Refusals.{bad_size};
 ghost use Rattle.net.specs.Results.{refused};
 ghost use Rattle.places.specs.Places.{cell, order_of};
 ghost use Rattle.places.specs.Refusals.{no_place};
 ghost use Rattle.places.specs.Located.{shares, Placed, InOrder, place_refusal};
 
-use net::{Refusal, bad_size, short_net};
+use net::{Refusal, Size, short_net};
 
 // A place's cell, the kind of its triangle, and the shares of corners 1, 2, 3.
 #[derive(Clone, Copy)]
@@ -40,12 +39,12 @@ fn cell_of(n: usize, p: usize) -> usize
 }
 
 // The triangle of a place and the shares of its corners. For `surface`, which has refused every other place.
-pub fn locate(w: usize, h: usize, p: usize, q: usize) -> Located
-    requires { (bad_size w h ≡ false) × (no_place 1024 w h p q ≡ false) }
-    ensures { Placed w h p q result.i result.j result.down result.a result.b result.d }
+pub fn locate(size: Size, p: usize, q: usize) -> Located
+    requires { no_place 1024 size.w size.h p q ≡ false }
+    ensures { Placed size.w size.h p q result.i result.j result.down result.a result.b result.d }
 {
-    let i = cell_of(w, p);
-    let j = cell_of(h, q);
+    let i = cell_of(size.w, p);
+    let j = cell_of(size.h, q);
     let f = p - 1024 * i;
     let g = q - 1024 * j;
     if 1024 < f + g {
@@ -70,14 +69,13 @@ pub fn locate(w: usize, h: usize, p: usize, q: usize) -> Located
 }
 
 // Whether place (p, q) is not in the grid.
-fn no_place(w: usize, h: usize, p: usize, q: usize) -> bool
-    requires { bad_size w h ≡ false }
-    ensures { result ≡ no_place 1024 w h p q }
+fn no_place(size: Size, p: usize, q: usize) -> bool
+    ensures { result ≡ no_place 1024 size.w size.h p q }
 {
-    if 1024 * (w - 1) < p {
+    if 1024 * (size.w - 1) < p {
         true
     } else {
-        1024 * (h - 1) < q
+        1024 * (size.h - 1) < q
     }
 }
 
@@ -85,13 +83,11 @@ fn no_place(w: usize, h: usize, p: usize, q: usize) -> bool
 pub fn place_refusal(net: &[i32], w: usize, h: usize, p: usize, q: usize) -> Result<(), Refusal>
     ensures { refused result ≡ place_refusal net.now w h p q }
 {
-    if bad_size(w, h) {
-        return Err(Refusal::Size);
-    }
-    if no_place(w, h, p, q) {
+    let size = Size::new(w, h)?;
+    if no_place(size, p, q) {
         return Err(Refusal::Place);
     }
-    if short_net(net, w, h) {
+    if short_net(net, size) {
         return Err(Refusal::Short);
     }
     Ok(())

@@ -11,7 +11,7 @@ ghost use Rattle.words.specs.Answers.{word_outcome, answer};
 ghost use Rattle.reader.specs.Refusals.{side_faults, number_faults, point_faults, end_faults, body_faults, short_for};
 ghost use Rattle.reader.specs.Answers.{read_outcome, head_answer, read_answer_with, read_net_with, read_answer, read_net};
 
-use net::{POINT_STRIDE, Refusal, STRIDE, bad_side, number_beyond, store_point};
+use net::{POINT_STRIDE, Refusal, STRIDE, Size, bad_side, number_beyond, store_point};
 use words::{HEAD_SIZE, Kind, POINT_SIZE, first_number, parse_word, signed_number};
 
 // A side's word: its payload, or 7, 8 or 1.
@@ -28,14 +28,14 @@ fn parse_side(left: &[u8], kind: Kind) -> Result<u32, Refusal>
 }
 
 // The two sides where the lent net has room for their numbers, or 5. For sides that passed their test.
-fn sized(w: usize, h: usize, short: bool, room: usize) -> Result<(usize, usize), Refusal>
-    requires { bad_size w h ≡ false }
-    ensures { read_outcome result ≡ answer (first_fault ((short || ltb room (numbers w h), 5) ∷ [])) (w ∷ h ∷ []) }
+fn sized(size: Size, short: bool, room: usize) -> Result<(usize, usize), Refusal>
+    ensures { read_outcome result ≡ answer (first_fault ((short || ltb room (numbers size.w size.h), 5) ∷ []))
+        (size.w ∷ size.h ∷ []) }
 {
-    if short || room < STRIDE * (w * h) {
+    if short || room < STRIDE * (size.w * size.h) {
         return Err(Refusal::Room);
     }
-    Ok((w, h))
+    Ok((size.w, size.h))
 }
 
 // The two sides, or the first fault up to 5.
@@ -44,7 +44,11 @@ fn parse_head(file: &[u8], short: bool, room: usize) -> Result<(usize, usize), R
 {
     let w = parse_side(file, Kind::Width)?;
     let h = parse_side(&file[4..], Kind::Height)?;
-    sized(w as usize, h as usize, short, room)
+    let size = Size {
+        w: w as usize,
+        h: h as usize,
+    };
+    sized(size, short, room)
 }
 
 // 7, 8 or 3 of a number's word.

@@ -4,7 +4,7 @@ ghost use Rattle.net.specs.Results.{refused, call_outcome};
 ghost use Rattle.refine.specs.Refusals.{too_short, refine_refusal};
 ghost use Rattle.refine.specs.Answers.{refine_answer, refine_output, RefineScratch};
 
-use crate::depth::{net_refusal, size_refusal};
+use crate::depth::{Steps, net_refusal, size_refusal};
 use net::Refusal;
 use steps::refine_steps;
 
@@ -20,7 +20,7 @@ fn refusal_of(
     ensures { refused result ≡ refine_refusal net.now w h k (too_short w h k room scratch) }
 {
     size_refusal(w, h, k)?;
-    net_refusal(net, w, h, k, false, room, scratch)
+    net_refusal(net, Steps { w, h, k }, false, room, scratch)
 }
 
 // The k times refined net over the front of `out`, or the first of 1, 4, 2, 5, 3. When k is 2 or more, the first

@@ -9,5 +9,5 @@ pub use points::refined_point;
 // For the crates above, whose callers lend one output more: no preconditions either.
 pub use points::refined_point_with;
 
-// For the crates above, which have refused a size and a k by 1 and 4 before.
+// For the crates above: no preconditions.
 pub use points::off_grid;

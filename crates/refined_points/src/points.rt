@@ -1,26 +1,24 @@
 // Refining and then a surface point, in one go: demand 3, held to by the code itself.
 ghost use Rattle.std.specs.Prelude.{◌≡◌, false, ◌||◌};
-ghost use Rattle.net.specs.Refusals.{bad_size};
 ghost use Rattle.net.specs.Results.{refused};
 ghost use Rattle.surface.specs.Answers.{point_outcome};
-ghost use Rattle.refine.specs.Refusals.{too_deep, too_short};
+ghost use Rattle.refine.specs.Refusals.{too_short};
 ghost use Rattle.refined_points.specs.Refusals.{off_grid, refined_point_refusal};
 ghost use Rattle.refined_points.specs.Contract.{RefinedPointContract};
 
 use net::Refusal;
-use refine::{net_refusal, size_refusal};
+use refine::{Steps, net_refusal, size_refusal};
 use steps::{refine_steps, side_after};
 use surface::{Point, surface_point};
 
-// Whether place (p, q) is off the refined grid. For the crates above too, which have refused a size and a k by 1 and 4.
-pub fn off_grid(w: usize, h: usize, k: usize, p: usize, q: usize) -> bool
-    requires { (bad_size w h ≡ false) × (too_deep w h k ≡ false) }
-    ensures { result ≡ off_grid w h k p q }
+// Whether place (p, q) is off the refined grid. For the crates above too.
+pub fn off_grid(steps: Steps, p: usize, q: usize) -> bool
+    ensures { result ≡ off_grid steps.w steps.h steps.k p q }
 {
-    if 1024 * (side_after(w, k) - 1) < p {
+    if 1024 * (side_after(steps.w, steps.k) - 1) < p {
         return true;
     }
-    1024 * (side_after(h, k) - 1) < q
+    1024 * (side_after(steps.h, steps.k) - 1) < q
 }
 
 // The first fault, 1, 4, 6, 2, 5 or 3.
@@ -38,10 +36,11 @@ fn refusal_at(
     ensures { refused result ≡ refined_point_refusal net.now w h k p q (short || too_short w h k room scratch) }
 {
     size_refusal(w, h, k)?;
-    if off_grid(w, h, k, p, q) {
+    let steps = Steps { w, h, k };
+    if off_grid(steps, p, q) {
         return Err(Refusal::Place);
     }
-    net_refusal(net, w, h, k, short, room, scratch)
+    net_refusal(net, steps, short, room, scratch)
 }
 
 // The same as `refined_point`, for the crates above: `short` is whether another output that they were lent is too

@@ -6,7 +6,7 @@ ghost use Rattle.refine.specs.Refusals.{too_deep};
 ghost use Rattle.seam.specs.Refusals.{other_place, depth_faults, no_seam_place, places_faults};
 
 use net::Refusal;
-use refine::size_refusal;
+use refine::{Steps, size_refusal};
 use refined_points::off_grid;
 
 // The first of 1 and 4 of either depth.
@@ -43,10 +43,10 @@ fn no_seam_place(
     requires { (bad_size w h ≡ false) × (too_deep w h k ≡ false) × (too_deep w h l ≡ false) }
     ensures { result ≡ no_seam_place w h k l p q p2 q2 }
 {
-    if off_grid(w, h, k, p, q) {
+    if off_grid(Steps { w, h, k }, p, q) {
         return true;
     }
-    if off_grid(w, h, l, p2, q2) {
+    if off_grid(Steps { w, h, k: l }, p2, q2) {
         return true;
     }
     other_place(k, l, p, q, p2, q2)

@@ -5,7 +5,7 @@ ghost use Rattle.seam.specs.Contract.{SeamLeft};
 
 use crate::faults::places_refusal;
 use net::Refusal;
-use refine::too_short;
+use refine::{Steps, too_short};
 use refined_points::{refined_point, refined_point_with};
 use surface::Point;
 
@@ -37,7 +37,7 @@ pub fn seam_points_with(
         → SeamHolds net.now w h k l p q p2 q2 (seam_outcome result).0 (seam_outcome result).1 }
 {
     places_refusal(w, h, k, l, p, q, p2, q2)?;
-    let first_short = too_short(w, h, k, out.len(), scratch.len());
+    let first_short = too_short(Steps { w, h, k }, out.len(), scratch.len());
     let second = refined_point_with(net, w, h, l, p2, q2, short | first_short, out2, scratch2)?;
     let first = refined_point(net, w, h, k, p, q, out, scratch)?;
     Ok((first, second))

@@ -7,7 +7,7 @@ ghost use Rattle.surface.specs.Answers.{point_outcome, view_outcome, point_answe
 use crate::answers::{Point, ViewPoint};
 use de_casteljau::{Corner, last_average};
 use exact::round_even;
-use net::Refusal;
+use net::{Refusal, Size};
 use places::{locate, place_refusal, put_in_order};
 use triangles::{load_corner, triangle_beyond};
 
@@ -75,7 +75,7 @@ pub fn surface_point_with(
     if short {
         return Err(Refusal::Room);
     }
-    let at = locate(w, h, p, q);
+    let at = locate(Size { w, h }, p, q);
     let i = at.i;
     let j = at.j;
     let down = at.down;

@@ -4,37 +4,34 @@ ghost use Rattle.std.specs.Prelude.{◌≡◌, false, ◌||◌, ◌+◌, ◌*◌
 ghost use Rattle.std.proofs.lemmas.List.Edits.{sets};
 ghost use Rattle.exact.specs.Filling.{over, runs};
 ghost use Rattle.net.specs.Net.{numbers, point_stride};
-ghost use Rattle.net.specs.Refusals.{bad_size, any_beyond};
+ghost use Rattle.net.specs.Refusals.{any_beyond};
 ghost use Rattle.words.specs.NetFile.{head_size, point_size, point_place, point_bytes, net_file, file_size};
 ghost use Rattle.net.specs.Results.{refused};
 ghost use Rattle.writer.specs.Refusals.{no_room, write_refusal};
 ghost use Rattle.writer.specs.Answers.{write_outcome, write_answer_with, write_output_with, write_answer, write_output};
 
-use net::{POINT_STRIDE, Refusal, STRIDE, bad_size, net_beyond, short_net};
+use net::{POINT_STRIDE, Refusal, STRIDE, Size, net_beyond, short_net};
 use words::{HEAD_SIZE, Kind, POINT_SIZE, store_number, store_word};
 
-// So many bytes the file of a net of an accepted size has.
-fn file_size(w: usize, h: usize) -> usize
-    requires { bad_size w h ≡ false }
-    ensures { result ≡ file_size w h }
+// So many bytes the file of a net has.
+fn file_size(size: Size) -> usize
+    ensures { result ≡ file_size size.w size.h }
 {
-    HEAD_SIZE + POINT_SIZE * (3 * (w * h)) + 4
+    HEAD_SIZE + POINT_SIZE * (3 * (size.w * size.h)) + 4
 }
 
 // The first fault, 1, 2, 5 or 3.
 fn write_refusal(net: &[i32], w: usize, h: usize, short: bool, room: usize) -> Result<(), Refusal>
     ensures { refused result ≡ write_refusal net.now w h (short || no_room w h room) }
 {
-    if bad_size(w, h) {
-        return Err(Refusal::Size);
-    }
-    if short_net(net, w, h) {
+    let size = Size::new(w, h)?;
+    if short_net(net, size) {
         return Err(Refusal::Short);
     }
-    if short || room < file_size(w, h) {
+    if short || room < file_size(size) {
         return Err(Refusal::Room);
     }
-    if net_beyond(net, w, h) {
+    if net_beyond(net, size) {
         return Err(Refusal::Range);
     }
     Ok(())
@@ -66,14 +63,14 @@ fn store_points(net: &[i32], n: usize, out: &mut [u8])
 }
 
 // The whole file.
-fn store_file(net: &[i32], w: usize, h: usize, out: &mut [u8])
-    requires { (bad_size w h ≡ false) × (numbers w h ≤ length net.now) × (file_size w h ≤ length out.old)
+fn store_file(net: &[i32], size: Size, out: &mut [u8])
+    requires { (numbers size.w size.h ≤ length net.now) × (file_size size.w size.h ≤ length out.old)
         × (any_beyond net.now ≡ false) }
-    ensures { out.new ≡ over (net_file net.now w h) out.old }
+    ensures { out.new ≡ over (net_file net.now size.w size.h) out.old }
 {
-    let n = 3 * (w * h);
-    store_word(Kind::Width, w as u32, 0, out);
-    store_word(Kind::Height, h as u32, 4, out);
+    let n = 3 * (size.w * size.h);
+    store_word(Kind::Width, size.w as u32, 0, out);
+    store_word(Kind::Height, size.h as u32, 4, out);
     store_points(net, n, out);
     store_word(Kind::End, 0, HEAD_SIZE + POINT_SIZE * n, out);
 }
@@ -94,9 +91,10 @@ pub fn write_with(
         out.old }
 {
     write_refusal(net, w, h, short, out.len())?;
+    let size = Size { w, h };
     let n = STRIDE * (w * h);
-    store_file(&net[0..n], w, h, out);
-    Ok(file_size(w, h))
+    store_file(&net[0..n], size, out);
+    Ok(file_size(size))
 }
 
 // The net's file over the front of `out` and the count of its bytes, or the first of 1, 2, 5, 3.

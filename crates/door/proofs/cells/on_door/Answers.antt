@@ -1,12 +1,10 @@
 -- `door::cells::on_door` meets its contract: the four cells tell whether the place is on the door.
 use mathlib.Core.Path.{◌≡◌}
-use mathlib.Core.Bool.{false}
 use mathlib.Core.List.{List}
 use Prim.Native.Nat.{ℕ, ◌/◌, ◌≤◌}
 use native.Mathlib.Omega.{arith}
 use native.Mathlib.Nat.{le_refl}
 use lib.ListN.{length}
-use Rattle.net.specs.Refusals.{bad_size}
 use Rattle.outline.specs.Outline.{triangles}
 use Rattle.door.specs.Cells.{Small}
 use Rattle.door.proofs.CellLaws.{small_cell, found_in_four}
@@ -40,13 +38,12 @@ module _ (c : After-saturating_sub-l) where
   row_before = omega arith
 
   known : (m n : ℕ) → m ≤ i → n ≤ j →
-      (bad_size start.args.w start.args.h ≡ false)
-      × (triangles start.args.w start.args.h ≤ length bytes)
+      (triangles start.args.size.w start.args.size.h ≤ length bytes)
       × Small start.args.d start.args.p start.args.q m n
   known m n x y =
       let a = start.args in
       let e = start.requires in
-      (e.0, e.1, small_cell a.d a.w a.h a.p a.q m n e.0 e.3 e.4 x y)
+      (e.0, small_cell a.d a.size.w a.size.h a.p a.q m n a.size.accepted e.2 e.3 x y)
 
 pub cell_has-left-requires : goal.cell_has-left-requires
 cell_has-left-requires c =
@@ -67,6 +64,6 @@ pub returns : goal.returns
 returns c =
     let s = (goal.at.returns c).After-saturating_sub-l in
     let a = (start s).args in
-    found_in_four a.d (bytes s) a.w a.h a.p a.q (start s).requires.0 (start s).requires.2
+    found_in_four a.d (bytes s) a.size.w a.size.h a.p a.q a.size.accepted (start s).requires.1
     s.saturating_sub-k.ensures s.saturating_sub-l.ensures c.cell_has-here.ensures
     c.cell_has-left.ensures c.cell_has-below.ensures c.cell_has-both.ensures

@@ -11,5 +11,5 @@ pub returns : goal.returns
 unfolding net_beyond
 returns c =
     let a = c.args in
-    let whole : numbers a.w a.h - 0 ≡ numbers a.w a.h = omega arith in
+    let whole : numbers a.size.w a.size.h - 0 ≡ numbers a.size.w a.size.h = omega arith in
     c.any_beyond.ensures ∙ ap (λ (n : ℕ). any_beyond (take n a.net.now)) whole

@@ -15,10 +15,10 @@ module _ (c : After-link_self) where
   abbrev s₁ : Start
   s₁ = (goal.at.After-link_self c).Start
 
-  first : Searched s₁.args.outline.now s₁.args.w s₁.args.h c.link_self.new.links
+  first : Searched s₁.args.outline.now s₁.args.size.w s₁.args.size.h c.link_self.new.links
   first =
       let a = s₁.args in
-      searched_first a.outline.now a.w a.h (length a.links.now) s₁.requires.0 s₁.requires.1 s₁.requires.2
+      searched_first a.outline.now a.size.w a.size.h (length a.links.now) a.size.accepted s₁.requires.0 s₁.requires.1
       c.link_self.ensures
 
 module _ (c : After-join_cells) where
@@ -28,10 +28,10 @@ module _ (c : After-join_cells) where
   abbrev s₂ : Start
   s₂ = s₁ before_joins
 
-  last : Searched s₂.args.outline.now s₂.args.w s₂.args.h c.join_cells.new.links
+  last : Searched s₂.args.outline.now s₂.args.size.w s₂.args.size.h c.join_cells.new.links
   last =
       let a = s₂.args in
-      searched_on a.outline.now a.w a.h (first before_joins) c.join_cells.ensures.grown
+      searched_on a.outline.now a.size.w a.size.h (first before_joins) c.join_cells.ensures.grown
 
 pub join_cells-requires : goal.join_cells-requires
 join_cells-requires c = first (goal.at.join_cells-requires c).After-link_self
@@ -40,6 +40,6 @@ pub returns : goal.returns
 returns c =
     let joined = (goal.at.returns c).After-join_cells in
     let a = (s₂ joined).args in
-    subst (λ (b : Bool). Judged (Connected a.outline.now a.w a.h) b) (sym c.one_root.ensures)
-    (search_judged a.outline.now a.w a.h joined.join_cells.new.links (last joined)
+    subst (λ (b : Bool). Judged (Connected a.outline.now a.size.w a.size.h) b) (sym c.one_root.ensures)
+    (search_judged a.outline.now a.size.w a.size.h joined.join_cells.new.links (last joined)
     joined.join_cells.ensures.joined)

@@ -24,7 +24,7 @@ module _ (c : After-count_triangles-n) where
   old = begun.args.search.now
 
   room : length (take n old) ≡ n
-  room = length-take-le n old (omega (arith, c.count_triangles-n.ensures, begun.requires.2))
+  room = length-take-le n old (omega (arith, c.count_triangles-n.ensures, begun.requires.1))
 
 pub returns : goal.returns
 returns c =
@@ -35,10 +35,10 @@ returns c =
     let links = call.connected_over.new.links in
     let long : length links ≡ length (take (n k) (old k)) = search rules in record {
       value = judged_once call.connected_over.ensures
-          (connected_judged s.args.outline.now s.args.w s.args.h);
+          (connected_judged s.args.outline.now s.args.size.w s.args.size.h);
       unchanged_from = (
         length_front (old k) links (n k) long,
-        drop_at links (drop (n k) (old k)) (triangles s.args.w s.args.h) (long ∙ room k ∙ e)
+        drop_at links (drop (n k) (old k)) (triangles s.args.size.w s.args.size.h) (long ∙ room k ∙ e)
             ∙ ap (λ (m : ℕ). drop m (old k)) e,
       );
     }

@@ -11,13 +11,15 @@ use Rattle.outlined_refine.proofs.faults.outlined_short.Goals as goal
 use Rattle.outlined_refine.proofs.faults.outlined_short.Goals.{Start}
 
 module _ (s : Start) where
-  depth : Depth s.args.w s.args.h s.args.k
-  depth = good_depth s.args.w s.args.h s.args.k s.requires.0 s.requires.1
+  depth : Depth s.args.steps.w s.args.steps.h s.args.steps.k
+  depth = good_depth s.args.steps.w s.args.steps.h s.args.steps.k s.args.steps.sized s.args.steps.shallow
 
   abbrev fine_triangles : ℕ
-  fine_triangles = triangles (side_after s.args.k s.args.w) (side_after s.args.k s.args.h)
+  fine_triangles = triangles (side_after s.args.steps.k s.args.steps.w) (side_after s.args.steps.k s.args.steps.h)
 
-pub count_triangles-requires : goal.count_triangles-requires
-count_triangles-requires c =
-    (λ i. bad_size (c.side_after-m.ensures i) (c.side_after-n.ensures i))
-    ∙ good_after (depth (goal.at.count_triangles-requires c).Start)
+pub invariant_of-count_triangles : goal.invariant_of-count_triangles
+invariant_of-count_triangles c =
+    record {
+      accepted = (λ i. bad_size (c.side_after-m.ensures i) (c.side_after-n.ensures i))
+          ∙ good_after (depth (goal.at.invariant_of-count_triangles c).Start);
+    }

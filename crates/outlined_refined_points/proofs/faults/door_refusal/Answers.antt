@@ -18,13 +18,13 @@ use Rattle.outlined_refined_points.proofs.faults.door_refusal.Goals.{In_ok-outli
 
 module _ (s : Start) where
   abbrev given : List Fault
-  given = outlined_faults s.args.net.now s.args.w s.args.h s.args.outline.now
+  given = outlined_faults s.args.net.now s.args.steps.w s.args.steps.h s.args.outline.now
 
   abbrev of_door : List Fault
-  of_door = (off_door s.args.k s.args.outline.now s.args.w s.args.h s.args.p s.args.q, 15) ∷ []
+  of_door = (off_door s.args.steps.k s.args.outline.now s.args.steps.w s.args.steps.h s.args.p s.args.q, 15) ∷ []
 
-  depth : Depth s.args.w s.args.h s.args.k
-  depth = good_depth s.args.w s.args.h s.args.k s.requires.0 s.requires.1
+  depth : Depth s.args.steps.w s.args.steps.h s.args.steps.k
+  depth = good_depth s.args.steps.w s.args.steps.h s.args.steps.k s.args.steps.sized s.args.steps.shallow
 
 -- 2 and 13 do not refuse
 clear : (c : In_ok-outlined_refusal) → Clear (given (goal.at.In_ok-outlined_refusal c).Start)
@@ -38,13 +38,12 @@ on_door-requires c =
     let a = s.args in
     let d = depth s in
     let k = clear (goal.at.on_door-requires c).In_ok-outlined_refusal in
-    let bounds = edge_bounds a.k d.few in
+    let bounds = edge_bounds a.steps.k d.few in
     let e = c.fine_edge.ensures in (
-      s.requires.0,
-      ltb-false _ _ (or_none (short_net a.net.now a.w a.h) (short_outline a.outline.now a.w a.h) k.0).1,
+      ltb-false _ _ (or_none (short_net a.net.now a.steps.w a.steps.h) (short_outline a.outline.now a.steps.w a.steps.h) k.0).1,
       omega (arith, bounds.0, e),
       omega (arith, bounds.1, e),
-      ap (λ (n : ℕ). no_place n a.w a.h a.p a.q) e
-          ∙ sym (same_grid a.w a.h a.k a.p a.q (omega (arith, d.wide)) (omega (arith, d.high)))
-          ∙ s.requires.2,
+      ap (λ (n : ℕ). no_place n a.steps.w a.steps.h a.p a.q) e
+          ∙ sym (same_grid a.steps.w a.steps.h a.steps.k a.p a.q (omega (arith, d.wide)) (omega (arith, d.high)))
+          ∙ s.requires,
     )

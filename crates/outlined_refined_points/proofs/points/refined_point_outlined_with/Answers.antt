@@ -65,7 +65,7 @@ returns-in_err-refusal_before c =
 pub is_connected-requires : goal.is_connected-requires
 is_connected-requires c =
     let r = (ready (goal.at.is_connected-requires c).In_ok-refusal_before).parts in
-    (r.size, r.bytes, r.search)
+    (r.bytes, r.search)
 
 pub returns-then-not-is_connected : goal.returns-then-not-is_connected
 returns-then-not-is_connected c =

@@ -7,11 +7,11 @@ use Rattle.places.proofs.places.locate.Goals as goal
 pub returns-then-f-g-gt1024 : goal.returns-then-f-g-gt1024
 returns-then-f-g-gt1024 c =
     let a = c.args in
-    placed a.w a.h a.p a.q true c.cell_of-i.ensures c.cell_of-j.ensures
+    placed a.size.w a.size.h a.p a.q true c.cell_of-i.ensures c.cell_of-j.ensures
     (lt-ltb _ _ c.if-f-g-gt1024.true)
 
 pub returns-else-f-g-gt1024 : goal.returns-else-f-g-gt1024
 returns-else-f-g-gt1024 c =
     let a = c.args in
-    placed a.w a.h a.p a.q false c.cell_of-i.ensures c.cell_of-j.ensures
+    placed a.size.w a.size.h a.p a.q false c.cell_of-i.ensures c.cell_of-j.ensures
     (le-ltb _ _ c.if-f-g-gt1024.false)

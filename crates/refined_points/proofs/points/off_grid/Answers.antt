@@ -8,8 +8,8 @@ use Rattle.refine.proofs.Depths.{good_depth}
 use Rattle.refined_points.proofs.points.off_grid.Goals as goal
 use Rattle.refined_points.proofs.points.off_grid.Goals.{Start}
 
-depth : (c : Start) → Depth c.args.w c.args.h c.args.k
-depth c = good_depth c.args.w c.args.h c.args.k c.requires.0 c.requires.1
+depth : (c : Start) → Depth c.args.steps.w c.args.steps.h c.args.steps.k
+depth c = good_depth c.args.steps.w c.args.steps.h c.args.steps.k c.args.steps.sized c.args.steps.shallow
 
 pub overflow_sub-side_after : goal.overflow_sub-side_after
 overflow_sub-side_after c =
@@ -17,7 +17,7 @@ overflow_sub-side_after c =
     omega (
       arith,
       c.side_after.ensures,
-      side_grows c.args.k c.args.w
+      side_grows c.args.steps.k c.args.steps.w
           (wide_ready g).0,
       g.wide,
     )
@@ -28,7 +28,7 @@ overflow_sub-result c =
     omega (
       arith,
       c.side_after-2.ensures,
-      side_grows c.args.k
-          c.args.h (high_ready g).0,
+      side_grows c.args.steps.k
+          c.args.steps.h (high_ready g).0,
       g.high,
     )

@@ -11,7 +11,7 @@ module _ (c : Else-short_net) where
   abbrev start : Start
   start = (goal.at.Else-short_net c).Start
 
-  long : short_net start.args.net.now start.args.w start.args.h ≡ false
+  long : short_net start.args.net.now start.args.size.w start.args.size.h ≡ false
   long = sym c.short_net.ensures ∙ c.if-short_net.false
 
 pub returns : goal.returns
@@ -19,6 +19,6 @@ returns c =
     let e = (goal.at.returns c).Else-short_net in
     let a = (start e).args in
     let none =
-    small_net a.net.now a.w a.h (start e).requires (long e) (sym c.any_large.ensures ∙ c.if-any_large.false) in
+    small_net a.net.now a.size.w a.size.h a.size.accepted (long e) (sym c.any_large.ensures ∙ c.if-any_large.false) in
     cond_false _ 2 _ (long e)
     (cond_false _ 5 _ c.if-short.false (cond_false _ 3 _ none.0 (cond_false _ 11 0 none.1 refl)))

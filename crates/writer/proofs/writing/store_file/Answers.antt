@@ -15,11 +15,11 @@ returns c =
     let second = c in
     let first = c in
     let s = c in
-    let n = points s.args.w s.args.h in
+    let n = points s.args.size.w s.args.size.h in
     let points = runs n (λ i. point_bytes s.args.net.now (point_stride * i)) in
     let sides = second.store_word-2.ensures
-    ∙ (λ t. sets (first.store_word.ensures t) 4 (word_bytes (word height_kind s.args.h))) in
+    ∙ (λ t. sets (first.store_word.ensures t) 4 (word_bytes (word height_kind s.args.size.h))) in
     let stored = body.store_points.ensures ∙ (λ t. sets (sides t) head_size points) in
     third.store_word-3.ensures
     ∙ (λ t. sets (stored t) (head_size + point_size * n) (word_bytes (word end_kind 0)))
-    ∙ file_stored s.args.net.now s.args.w s.args.h s.args.out.now s.requires.2
+    ∙ file_stored s.args.net.now s.args.size.w s.args.size.h s.args.out.now s.requires.1

@@ -54,7 +54,6 @@ pub store_file-requires : goal.store_file-requires
 store_file-requires c =
     let k = (goal.at.store_file-requires c).In_ok-write_refusal in
     let g = good k in (
-      g.size,
       omega (arith, ap length (part k), length-take (numbers (w k) (h k)) (net k), g.long),
       g.room_enough,
       ap any_beyond (part k) ∙ g.range,
