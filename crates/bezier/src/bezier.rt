@@ -1,5 +1,5 @@
 // Bézier nets: the 19 points of a triangle times 36, as weighted sums of its nine control values.
-ghost use Rattle.std.specs.Prelude.{◌≡◌, false, map, ℕ, ◌≤◌, ◌<◌, length};
+ghost use Rattle.std.specs.Prelude.{◌≡◌, map, ℕ, ◌≤◌, ◌<◌, length};
 ghost use Rattle.exact.specs.WeightedSum.{weighted_sum, Within};
 ghost use Rattle.exact.specs.Filling.{over, runs};
 ghost use Rattle.net.specs.Results.{refused, call_outcome};

@@ -1,5 +1,5 @@
 // Whether a place is on the door: only the cells that the place lies in can have it, at most four.
-ghost use Rattle.std.specs.Prelude.{◌≡◌, false, ◌-◌, ◌≤◌, ◌<◌, length};
+ghost use Rattle.std.specs.Prelude.{◌≡◌, false, ◌≤◌, ◌<◌, length};
 ghost use Rattle.places.specs.Refusals.{no_place};
 ghost use Rattle.outline.specs.Outline.{triangles};
 ghost use Rattle.door.specs.Door.{lies_up, lies_down, on_door};

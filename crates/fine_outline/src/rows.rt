@@ -4,11 +4,10 @@ ghost use Rattle.std.proofs.lemmas.List.Edits.{sets};
 ghost use Rattle.exact.specs.Filling.{over};
 ghost use Rattle.subdivision.specs.Refinement.{side_after};
 ghost use Rattle.outline.specs.Outline.{triangles};
-ghost use Rattle.steps.specs.Steps.{Depth};
 ghost use Rattle.fine_outline.specs.FineOutline.{fine_outline};
 ghost use Rattle.fine_outline.specs.Rows.{cell_run, row_run, RowReady};
 
-use steps::side_after;
+use steps::{Steps, side_after};
 
 // The byte of a fine triangle that has x cells below and left of it in its starting cell of s: the down triangle's from
 // the diagonal on, else the up triangle's.
@@ -48,16 +47,16 @@ fn write_row(outline: &[u8], w: usize, h: usize, s: usize, r: usize, fine: &mut 
     }
 }
 
-// The outline of the net after k steps, over the front of `fine`. For `outlined_refine` and `outlined_refined_points`,
-// which have refused every other size, k and length.
-pub fn write_fine_outline(outline: &[u8], w: usize, h: usize, k: usize, fine: &mut [u8])
-    requires { Depth w h k × (triangles w h ≤ length outline.now)
-        × (triangles (side_after k w) (side_after k h) ≤ length fine.old) }
-    ensures { fine.new ≡ over (fine_outline outline.now w h k) fine.old }
+// The outline of the net after the steps, over the front of `fine`. For `outlined_refine` and
+// `outlined_refined_points`, which have refused every other length.
+pub fn write_fine_outline(outline: &[u8], steps: Steps, fine: &mut [u8])
+    requires { (triangles steps.w steps.h ≤ length outline.now)
+        × (triangles (side_after steps.k steps.w) (side_after steps.k steps.h) ≤ length fine.old) }
+    ensures { fine.new ≡ over (fine_outline outline.now steps.w steps.h steps.k) fine.old }
 {
-    let s = side_after(2, k) - 1;
-    let rows = s * (h - 1);
+    let s = side_after(2, steps.k) - 1;
+    let rows = s * (steps.h - 1);
     for r in 0..rows {
-        write_row(outline, w, h, s, r, fine);
+        write_row(outline, steps.w, steps.h, s, r, fine);
     }
 }

@@ -1,5 +1,5 @@
 -- What the call answers and leaves in lent memory.
-use Rattle.std.specs.Prelude.{◌≡◌, refl, Bool, true, false, List, [], ◌∷◌, ℕ, ℤ, pos, negsuc, length, drop, replicate, Ok, Err, Result}
+use Rattle.std.specs.Prelude.{◌≡◌, refl, true, false, List, [], ◌∷◌, ℕ, ℤ, pos, negsuc, length, drop, replicate, Ok, Err, Result}
 use Rattle.std.proofs.Common.{ap}
 use Rattle.exact.specs.Filling.{over, runs}
 use Rattle.net.specs.Net.{grid, control_point, squares}

@@ -1,7 +1,6 @@
 // From a net file to the refined net that is listed. Everything is looked for that could be refused before the first
 // number is stored.
-ghost use Rattle.std.specs.Prelude.{◌≡◌, false, [], ◌∷◌, take};
-ghost use Rattle.net.specs.Refusals.{bad_size};
+ghost use Rattle.std.specs.Prelude.{◌≡◌, [], ◌∷◌, take};
 ghost use Rattle.net.specs.Results.{refused};
 ghost use Rattle.reader.specs.Answers.{read_answer};
 ghost use Rattle.listing_input.specs.Printed.{step_refusal, RefineFileContract, Buffers};

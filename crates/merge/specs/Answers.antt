@@ -1,5 +1,5 @@
 -- What merging answers and leaves in lent memory.
-use Rattle.std.specs.Prelude.{◌≡◌, refl, Bool, true, false, List, [], ◌∷◌, ℕ, ℤ, pos, length, drop, replicate, Ok, Err, Result}
+use Rattle.std.specs.Prelude.{◌≡◌, refl, true, false, List, [], ◌∷◌, ℕ, ℤ, pos, length, drop, replicate, Ok, Err, Result}
 use Rattle.exact.specs.Rounding.{rounded, floor_quotient}
 use Rattle.exact.specs.Filling.{over, runs}
 use Rattle.net.specs.Net.{grid, control_point, control_triangle, squares}

@@ -1,5 +1,5 @@
 // Splitting, cleaning and merging in one go: how far a cleaned net moves, held to by the code itself.
-ghost use Rattle.std.specs.Prelude.{◌≡◌, false, [], ◌∷◌, ◌++◌};
+ghost use Rattle.std.specs.Prelude.{◌≡◌, [], ◌∷◌, ◌++◌};
 ghost use Rattle.net.specs.Refusals.{first_fault};
 ghost use Rattle.net.specs.Results.{refused};
 ghost use Rattle.details.specs.Refusals.{too_great};

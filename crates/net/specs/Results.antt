@@ -33,10 +33,29 @@ module _ {A : Type 0} where
   call_outcome (Ok _) = (0, true)
   call_outcome (Err r) = (refusal_number r, false)
 
--- ---- worked cases: what is carried out, and each refusal with its number
+-- ---- worked cases: what is carried out, what is refused, and the numbers of the rows of documents 01 and 02
 carried_out : {A : Type 0} (a : A) → (refused (Ok a) ≡ 0) × (call_outcome (Ok a) ≡ (0, true))
 carried_out a = (refl, refl)
 
 outcomes : (A : Type 0) (r : Refusal) →
     (refused {A = A} (Err r) ≡ refusal_number r) × (call_outcome {A = A} (Err r) ≡ (refusal_number r, false))
 outcomes A r = (refl, refl)
+
+rows :
+    (refusal_number refusal.Size ≡ 1)
+    × (refusal_number refusal.Short ≡ 2)
+    × (refusal_number refusal.Range ≡ 3)
+    × (refusal_number refusal.Depth ≡ 4)
+    × (refusal_number refusal.Room ≡ 5)
+    × (refusal_number refusal.Place ≡ 6)
+    × (refusal_number refusal.MissingWord ≡ 7)
+    × (refusal_number refusal.WrongWord ≡ 8)
+    × (refusal_number refusal.Trailing ≡ 9)
+    × (refusal_number refusal.Even ≡ 10)
+    × (refusal_number refusal.ResultRange ≡ 11)
+    × (refusal_number refusal.Threshold ≡ 12)
+    × (refusal_number refusal.OutlineByte ≡ 13)
+    × (refusal_number refusal.NotConnected ≡ 14)
+    × (refusal_number refusal.OffDoor ≡ 15)
+    × (refusal_number refusal.ControlRange ≡ 16)
+rows = (refl, refl, refl, refl, refl, refl, refl, refl, refl, refl, refl, refl, refl, refl, refl, refl)

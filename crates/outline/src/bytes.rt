@@ -1,5 +1,5 @@
 // The bytes of an outline: how many there are, and the tests of their count and of their values.
-ghost use Rattle.std.specs.Prelude.{◌≡◌, false, ◌≤◌, length};
+ghost use Rattle.std.specs.Prelude.{◌≡◌, ◌≤◌, length};
 ghost use Rattle.net.specs.Refusals.{first_fault};
 ghost use Rattle.net.specs.Results.{refused};
 ghost use Rattle.outline.specs.Outline.{triangles};

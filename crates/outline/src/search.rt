@@ -1,6 +1,6 @@
 // Whether the present triangles of an outline are connected. Triangles that share an edge are joined by links, cell by
 // cell, so that what is joined has one root.
-ghost use Rattle.std.specs.Prelude.{◌≡◌, true, false, ◌+◌, ◌≤◌, ◌<◌, eqb, length};
+ghost use Rattle.std.specs.Prelude.{◌≡◌, true, ◌+◌, ◌≤◌, ◌<◌, eqb, length};
 ghost use Rattle.exact.specs.Filling.{UnchangedFrom};
 ghost use Rattle.graphs.specs.Walks.{Judged};
 ghost use Rattle.graphs.specs.Links.{Linked, JoinedIf};

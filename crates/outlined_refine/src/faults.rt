@@ -6,8 +6,8 @@ ghost use Rattle.outlined_refine.specs.Refusals.{outlined_short, faults_before};
 
 use net::{Refusal, Size};
 use outline::{count_triangles, outlined_refusal};
-use refine::{Steps, size_refusal, too_short};
-use steps::side_after;
+use refine::{size_refusal, too_short};
+use steps::{Steps, side_after};
 
 // Whether the output, the scratch net, the fine outline or the search is too short. Also
 // for `outlined_refined_points`.

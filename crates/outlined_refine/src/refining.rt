@@ -4,7 +4,6 @@ ghost use Rattle.net.specs.Refusals.{output_after};
 ghost use Rattle.net.specs.Results.{call_outcome};
 ghost use Rattle.outline.specs.Outline.{triangles};
 ghost use Rattle.subdivision.specs.Refinement.{side_after};
-ghost use Rattle.steps.specs.Steps.{Depth};
 ghost use Rattle.fine_outline.specs.FineOutline.{fine_outline};
 ghost use Rattle.refine.specs.Answers.{refusal_of, refine_answer, refine_output, RefineScratch};
 ghost use Rattle.outlined_refine.specs.Answers.{faults_of, outlined_refusal_of, outlined_answer, OutlinedLeft};
@@ -14,32 +13,31 @@ use fine_outline::write_fine_outline;
 use net::{Refusal, Size};
 use outline::is_connected;
 use refine::refine;
+use steps::Steps;
 
 // Plain refining, and then the outline of the refined net over the front of `fine`.
 fn refine_both(
     net: &[i32],
-    w: usize,
-    h: usize,
-    k: usize,
+    steps: Steps,
     outline: &[u8],
     out: &mut [i32],
     scratch: &mut [i32],
     fine: &mut [u8],
 ) -> Result<(), Refusal>
-    requires { Depth w h k × (triangles w h ≤ length outline.now)
-        × (triangles (side_after k w) (side_after k h) ≤ length fine.old) }
+    requires { (triangles steps.w steps.h ≤ length outline.now)
+        × (triangles (side_after steps.k steps.w) (side_after steps.k steps.h) ≤ length fine.old) }
     ensures result_value { call_outcome result
-        ≡ refine_answer net.now w h k out.old scratch.old }
+        ≡ refine_answer net.now steps.w steps.h steps.k out.old scratch.old }
     ensures out_after { out.new
-        ≡ refine_output net.now w h k out.old scratch.old }
-    ensures refine_scratch { RefineScratch net.now w h k out.old scratch.old
+        ≡ refine_output net.now steps.w steps.h steps.k out.old scratch.old }
+    ensures refine_scratch { RefineScratch net.now steps.w steps.h steps.k out.old scratch.old
         scratch.new }
     ensures fine_after { fine.new
-        ≡ output_after (refusal_of net.now w h k out.old scratch.old)
-        (fine_outline outline.now w h k) fine.old }
+        ≡ output_after (refusal_of net.now steps.w steps.h steps.k out.old scratch.old)
+        (fine_outline outline.now steps.w steps.h steps.k) fine.old }
 {
-    refine(net, w, h, k, out, scratch)?;
-    write_fine_outline(outline, w, h, k, fine);
+    refine(net, steps.w, steps.h, steps.k, out, scratch)?;
+    write_fine_outline(outline, steps, fine);
     Ok(())
 }
 
@@ -82,5 +80,5 @@ pub fn refine_outlined(
     if !is_connected(outline, Size { w, h }, search) {
         return Err(Refusal::NotConnected);
     }
-    refine_both(net, w, h, k, outline, out, scratch, fine)
+    refine_both(net, Steps { w, h, k }, outline, out, scratch, fine)
 }

@@ -12,8 +12,9 @@ use door::on_door;
 use net::{Refusal, Size};
 use outline::outlined_refusal;
 use outlined_refine::outlined_short;
-use refine::{Steps, size_refusal};
+use refine::size_refusal;
 use refined_points::off_grid;
+use steps::Steps;
 
 // 1024·2^k: the edge count of the starting net at which places of the refined grid are counted.
 fn fine_edge(k: usize) -> usize

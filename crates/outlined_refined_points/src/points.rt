@@ -4,7 +4,6 @@ ghost use Rattle.net.specs.Refusals.{output_after};
 ghost use Rattle.outline.specs.Outline.{triangles};
 ghost use Rattle.surface.specs.Answers.{point_outcome};
 ghost use Rattle.subdivision.specs.Refinement.{side_after};
-ghost use Rattle.steps.specs.Steps.{Depth};
 ghost use Rattle.refined_points.specs.Answers.{refusal_at};
 ghost use Rattle.refined_points.specs.Contract.{RefinedPointContract};
 ghost use Rattle.fine_outline.specs.FineOutline.{fine_outline};
@@ -15,14 +14,13 @@ use fine_outline::write_fine_outline;
 use net::{Refusal, Size};
 use outline::is_connected;
 use refined_points::refined_point;
+use steps::Steps;
 use surface::Point;
 
 // Plain refining and the point, and then the outline of the refined net over the front of `fine`.
 fn point_both(
     net: &[i32],
-    w: usize,
-    h: usize,
-    k: usize,
+    steps: Steps,
     outline: &[u8],
     p: usize,
     q: usize,
@@ -30,16 +28,16 @@ fn point_both(
     scratch: &mut [i32],
     fine: &mut [u8],
 ) -> Result<Point, Refusal>
-    requires { Depth w h k × (triangles w h ≤ length outline.now)
-        × (triangles (side_after k w) (side_after k h) ≤ length fine.old) }
-    ensures refined_point_contract { RefinedPointContract net.now w h k p q false out.old scratch.old
-        (point_outcome result) out.new scratch.new }
+    requires { (triangles steps.w steps.h ≤ length outline.now)
+        × (triangles (side_after steps.k steps.w) (side_after steps.k steps.h) ≤ length fine.old) }
+    ensures refined_point_contract { RefinedPointContract net.now steps.w steps.h steps.k p q false out.old
+        scratch.old (point_outcome result) out.new scratch.new }
     ensures fine_after { fine.new
-        ≡ output_after (refusal_at net.now w h k p q false out.old scratch.old)
-        (fine_outline outline.now w h k) fine.old }
+        ≡ output_after (refusal_at net.now steps.w steps.h steps.k p q false out.old scratch.old)
+        (fine_outline outline.now steps.w steps.h steps.k) fine.old }
 {
-    let point = refined_point(net, w, h, k, p, q, out, scratch)?;
-    write_fine_outline(outline, w, h, k, fine);
+    let point = refined_point(net, steps.w, steps.h, steps.k, p, q, out, scratch)?;
+    write_fine_outline(outline, steps, fine);
     Ok(point)
 }
 
@@ -80,7 +78,7 @@ pub fn refined_point_outlined_with(
     if !is_connected(outline, Size { w, h }, search) {
         return Err(Refusal::NotConnected);
     }
-    point_both(net, w, h, k, outline, p, q, out, scratch, fine)
+    point_both(net, Steps { w, h, k }, outline, p, q, out, scratch, fine)
 }
 
 // The net refined by k steps over the front of `out`, its outline over the front of `fine`, and the surface point at

@@ -1,9 +1,9 @@
 // The reader: the whole file is checked before the first number is stored. Callers in this file establish the
 // preconditions of the inner functions.
-ghost use Rattle.std.specs.Prelude.{◌≡◌, false, ◌||◌, [], ◌∷◌, ◌+◌, ◌*◌, ◌≤◌, ltb, length};
+ghost use Rattle.std.specs.Prelude.{◌≡◌, ◌||◌, [], ◌∷◌, ◌+◌, ◌*◌, ◌≤◌, ltb, length};
 ghost use Rattle.exact.specs.Filling.{over, runs};
 ghost use Rattle.net.specs.Net.{numbers, point_stride};
-ghost use Rattle.net.specs.Refusals.{bad_size, first_fault};
+ghost use Rattle.net.specs.Refusals.{first_fault};
 ghost use Rattle.net.specs.Results.{refused};
 ghost use Rattle.words.specs.NetFile.{word_payload, first_word, first_point, from_point, head_size, point_size, point_place};
 ghost use Rattle.words.specs.Kinds.{kind_number};

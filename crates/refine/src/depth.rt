@@ -6,7 +6,7 @@ ghost use Rattle.steps.specs.RefinedNet.{numbers_after};
 ghost use Rattle.refine.specs.Refusals.{too_deep, too_short, size_faults, net_faults};
 
 use net::{Refusal, STRIDE, Size, net_beyond, short_net};
-use steps::side_after;
+use steps::{Steps, side_after};
 
 // Whether k is above 6 or a refined side above 1,025: k first, before a side is doubled k times.
 fn too_deep(size: Size, k: usize) -> bool
@@ -30,16 +30,6 @@ pub fn size_refusal(w: usize, h: usize, k: usize) -> Result<(), Refusal>
         return Err(Refusal::Depth);
     }
     Ok(())
-}
-
-// k steps from a net of width w and height h, which 1 and 4 do not refuse.
-#[derive(Clone, Copy)]
-pub struct Steps {
-    pub w: usize,
-    pub h: usize,
-    pub k: usize,
-    ghost sized: { bad_size w h ≡ false },
-    ghost shallow: { too_deep w h k ≡ false },
 }
 
 // Whether a slice of so many numbers is shorter than the net after the steps.

@@ -8,4 +8,4 @@ mod refining;
 pub use refining::refine;
 
 // For the crates above: no preconditions.
-pub use depth::{Steps, net_refusal, size_refusal, too_short};
+pub use depth::{net_refusal, size_refusal, too_short};

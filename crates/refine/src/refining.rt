@@ -4,9 +4,9 @@ ghost use Rattle.net.specs.Results.{refused, call_outcome};
 ghost use Rattle.refine.specs.Refusals.{too_short, refine_refusal};
 ghost use Rattle.refine.specs.Answers.{refine_answer, refine_output, RefineScratch};
 
-use crate::depth::{Steps, net_refusal, size_refusal};
+use crate::depth::{net_refusal, size_refusal};
 use net::Refusal;
-use steps::refine_steps;
+use steps::{Steps, refine_steps};
 
 // The first fault, 1, 4, 2, 5 or 3.
 fn refusal_of(
@@ -42,6 +42,6 @@ pub fn refine(
         scratch.new }
 {
     refusal_of(net, w, h, k, out.len(), scratch.len())?;
-    refine_steps(net, w, h, k, out, scratch);
+    refine_steps(net, Steps { w, h, k }, out, scratch);
     Ok(())
 }

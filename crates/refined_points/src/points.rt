@@ -7,8 +7,8 @@ ghost use Rattle.refined_points.specs.Refusals.{off_grid, refined_point_refusal}
 ghost use Rattle.refined_points.specs.Contract.{RefinedPointContract};
 
 use net::Refusal;
-use refine::{Steps, net_refusal, size_refusal};
-use steps::{refine_steps, side_after};
+use refine::{net_refusal, size_refusal};
+use steps::{Steps, refine_steps, side_after};
 use surface::{Point, surface_point};
 
 // Whether place (p, q) is off the refined grid. For the crates above too.
@@ -60,7 +60,7 @@ pub fn refined_point_with(
         (point_outcome result) out.new scratch.new }
 {
     refusal_at(net, w, h, k, p, q, short, out.len(), scratch.len())?;
-    refine_steps(net, w, h, k, out, scratch);
+    refine_steps(net, Steps { w, h, k }, out, scratch);
     let m = side_after(w, k);
     let n = side_after(h, k);
     surface_point(out, m, n, p, q)

@@ -9,7 +9,7 @@ use lib.ListN.{length}
 use borrow.Author.Tests.{eqb-true, not-false}
 use Rattle.exact.specs.Filling.{UnchangedFrom}
 use Rattle.net.specs.Refusals.{Fault, first_fault, bad_size, output_after}
-use Rattle.net.proofs.Faults.{Clear, none_clear, clear_none, clear_parts, fault_after, or_none, answered, not_accepted, accepted_answer, refused_answer}
+use Rattle.net.proofs.Faults.{Clear, none_clear, clear_none, clear_parts, fault_after, or_none, answered, not_accepted, accepted_answer, refused_answer, fault_before}
 use Rattle.steps.specs.RefinedNet.{refined_net}
 use Rattle.refine.specs.Refusals.{too_deep, too_short, size_faults, net_faults}
 use Rattle.refine.specs.Answers.{free_scratch}
@@ -93,6 +93,14 @@ module _ (net : List ℤ) (w h k l p q p2 q2 : ℕ) (other : Bool) (out scratch 
         refused_answer refusal (seam_points net w h k l p q p2 q2) e there,
         (record { output = left.0; scratch_free = left.1; output2 = o; scratch_free2 = u }, λ z. absurd (there z)),
       )
+
+  -- by 1, 4 or 6
+  pub places_refused : {n : ℕ} → n ≡ first_fault (places_faults w h k l p q p2 q2) → (n ≡ 0 → ⊥) →
+      Ensured out scratch out2 scratch2 (n, [])
+  places_refused {n} e there =
+      let left2 = left_refused n l w h (refined_net net w h l) out2 scratch2 there in
+      refused_with (e ∙ fault_before (places_faults w h k l p q p2 q2) rest (λ z. there (e ∙ z))) there left2.0
+      left2.1
 
   -- past these the second point, with what the first lacks of room, has the refusals of both
   module _ (clear : Clear (places_faults w h k l p q p2 q2)) (out2' scratch2' : List ℤ) where

@@ -6,8 +6,9 @@ ghost use Rattle.refine.specs.Refusals.{too_deep};
 ghost use Rattle.seam.specs.Refusals.{other_place, depth_faults, no_seam_place, places_faults};
 
 use net::Refusal;
-use refine::{Steps, size_refusal};
+use refine::size_refusal;
 use refined_points::off_grid;
+use steps::Steps;
 
 // The first of 1 and 4 of either depth.
 fn depth_refusal(w: usize, h: usize, k: usize, l: usize) -> Result<(), Refusal>

@@ -5,8 +5,9 @@ ghost use Rattle.seam.specs.Contract.{SeamLeft};
 
 use crate::faults::places_refusal;
 use net::Refusal;
-use refine::{Steps, too_short};
+use refine::too_short;
 use refined_points::{refined_point, refined_point_with};
+use steps::Steps;
 use surface::Point;
 
 // The same as `seam_points`, for the crates above: `short` is whether another output that they were lent is too short,

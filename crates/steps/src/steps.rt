@@ -7,10 +7,10 @@ ghost use Rattle.exact.specs.Filling.{over, UnchangedFrom};
 ghost use Rattle.net.specs.Refusals.{AcceptedNet};
 ghost use Rattle.subdivision.specs.Refinement.{refined_side, side_after};
 ghost use Rattle.steps.specs.RefinedNet.{refined_fields, row_run, refined_net, numbers_after, scratch_need};
-ghost use Rattle.steps.specs.Steps.{Depth, StepReady, RowReady};
+ghost use Rattle.steps.specs.Steps.{StepReady, RowReady};
 
 use crate::pairs::store_pair;
-use crate::sizes::side_after;
+use crate::sizes::{Steps, side_after};
 use exact::copy_over;
 use net::STRIDE;
 
@@ -39,42 +39,50 @@ fn refine_once(net: &[i32], w: usize, h: usize, out: &mut [i32])
 }
 
 // No step, which copies, or one.
-fn few_steps(net: &[i32], w: usize, h: usize, k: usize, out: &mut [i32])
-    requires { (k < 2) × Depth w h k × AcceptedNet net.now w h × (numbers_after k w h ≤ length out.old) }
-    ensures { out.new ≡ over (refined_net net.now w h k) out.old }
+fn few_steps(net: &[i32], steps: Steps, out: &mut [i32])
+    requires { (steps.k < 2) × AcceptedNet net.now steps.w steps.h
+        × (numbers_after steps.k steps.w steps.h ≤ length out.old) }
+    ensures { out.new ≡ over (refined_net net.now steps.w steps.h steps.k) out.old }
 {
-    if k == 0 {
-        let n = STRIDE * (w * h);
+    if steps.k == 0 {
+        let n = STRIDE * (steps.w * steps.h);
         copy_over(&net[0..n], out);
     } else {
-        refine_once(net, w, h, out);
+        refine_once(net, steps.w, steps.h, out);
     }
 }
 
 // The last of k steps, of what the steps before it made of a net of width w and height h.
-fn last_step(net: &[i32], w: usize, h: usize, k: usize, out: &mut [i32])
-    requires { (1 ≤ k) × Depth w h k × AcceptedNet net.now (side_after (k - 1) w) (side_after (k - 1) h)
-        × (numbers_after k w h ≤ length out.old) }
+fn last_step(net: &[i32], steps: Steps, out: &mut [i32])
+    requires { (1 ≤ steps.k)
+        × AcceptedNet net.now (side_after (steps.k - 1) steps.w) (side_after (steps.k - 1) steps.h)
+        × (numbers_after steps.k steps.w steps.h ≤ length out.old) }
     ensures { out.new
-        ≡ over (refined_net net.now (side_after (k - 1) w) (side_after (k - 1) h) 1) out.old }
+        ≡ over (refined_net net.now (side_after (steps.k - 1) steps.w) (side_after (steps.k - 1) steps.h) 1)
+        out.old }
 {
-    let m = side_after(w, k - 1);
-    let n = side_after(h, k - 1);
+    let m = side_after(steps.w, steps.k - 1);
+    let n = side_after(steps.h, steps.k - 1);
     refine_once(net, m, n, out);
 }
 
 // The k times refined net over the front of `out`. The net after k - 1 steps goes into `scratch`, with `out` for its
 // scratch: so the slices change places at each step, and the last one writes `out`.
-pub fn refine_steps(net: &[i32], w: usize, h: usize, k: usize, out: &mut [i32], scratch: &mut [i32])
-    requires { Depth w h k × AcceptedNet net.now w h × (numbers_after k w h ≤ length out.old)
-        × (scratch_need k w h ≤ length scratch.old) }
-    ensures out_after { out.new ≡ over (refined_net net.now w h k) out.old }
-    ensures unchanged_from { UnchangedFrom (scratch_need k w h) scratch.old scratch.new }
+pub fn refine_steps(net: &[i32], steps: Steps, out: &mut [i32], scratch: &mut [i32])
+    requires { AcceptedNet net.now steps.w steps.h × (numbers_after steps.k steps.w steps.h ≤ length out.old)
+        × (scratch_need steps.k steps.w steps.h ≤ length scratch.old) }
+    ensures out_after { out.new ≡ over (refined_net net.now steps.w steps.h steps.k) out.old }
+    ensures unchanged_from { UnchangedFrom (scratch_need steps.k steps.w steps.h) scratch.old scratch.new }
 {
-    if k < 2 {
-        few_steps(net, w, h, k, out);
+    if steps.k < 2 {
+        few_steps(net, steps, out);
     } else {
-        refine_steps(net, w, h, k - 1, scratch, out);
-        last_step(scratch, w, h, k, out);
+        let before = Steps {
+            w: steps.w,
+            h: steps.h,
+            k: steps.k - 1,
+        };
+        refine_steps(net, before, scratch, out);
+        last_step(scratch, steps, out);
     }
 }

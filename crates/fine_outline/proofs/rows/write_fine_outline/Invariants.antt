@@ -6,4 +6,4 @@ use Rattle.fine_outline.specs.Rows.{row_run}
 use Rattle.fine_outline.proofs.rows.write_fine_outline.Given as goal
 
 abbrev pub invariant-loop-r : goal.invariant-loop-r
-invariant-loop-r l = l.fine ≡ over (runs l.r (row_run l.outline l.w l.s)) l.initial.fine
+invariant-loop-r l = l.fine ≡ over (runs l.r (row_run l.outline l.steps.w l.s)) l.initial.fine

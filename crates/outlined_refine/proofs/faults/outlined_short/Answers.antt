@@ -5,14 +5,13 @@ use Rattle.net.specs.Refusals.{bad_size}
 use Rattle.outline.specs.Outline.{triangles}
 use Rattle.subdivision.specs.Refinement.{side_after}
 use Rattle.steps.specs.Steps.{Depth}
-use Rattle.refine.proofs.Depths.{good_depth}
 use Rattle.steps.proofs.RefinedNets.{good_after}
 use Rattle.outlined_refine.proofs.faults.outlined_short.Goals as goal
 use Rattle.outlined_refine.proofs.faults.outlined_short.Goals.{Start}
 
 module _ (s : Start) where
   depth : Depth s.args.steps.w s.args.steps.h s.args.steps.k
-  depth = good_depth s.args.steps.w s.args.steps.h s.args.steps.k s.args.steps.sized s.args.steps.shallow
+  depth = s.args.steps.depth
 
   abbrev fine_triangles : ℕ
   fine_triangles = triangles (side_after s.args.steps.k s.args.steps.w) (side_after s.args.steps.k s.args.steps.h)

@@ -10,7 +10,6 @@ use Rattle.net.proofs.Faults.{Clear, none_clear, or_none}
 use Rattle.places.specs.Refusals.{no_place}
 use Rattle.outline.specs.Refusals.{short_outline, outlined_faults}
 use Rattle.steps.specs.Steps.{Depth}
-use Rattle.refine.proofs.Depths.{good_depth}
 use Rattle.refined_points.proofs.EdgeCounts.{edge_bounds, same_grid}
 use Rattle.outlined_refined_points.specs.Refusals.{off_door}
 use Rattle.outlined_refined_points.proofs.faults.door_refusal.Goals as goal
@@ -24,7 +23,7 @@ module _ (s : Start) where
   of_door = (off_door s.args.steps.k s.args.outline.now s.args.steps.w s.args.steps.h s.args.p s.args.q, 15) ∷ []
 
   depth : Depth s.args.steps.w s.args.steps.h s.args.steps.k
-  depth = good_depth s.args.steps.w s.args.steps.h s.args.steps.k s.args.steps.sized s.args.steps.shallow
+  depth = s.args.steps.depth
 
 -- 2 and 13 do not refuse
 clear : (c : In_ok-outlined_refusal) → Clear (given (goal.at.In_ok-outlined_refusal c).Start)

@@ -4,12 +4,11 @@ use native.Mathlib.Omega.{arith}
 use Rattle.subdivision.specs.Refinement.{side_after}
 use Rattle.steps.specs.Steps.{Depth}
 use Rattle.steps.proofs.Sides.{wide_ready, high_ready, side_grows}
-use Rattle.refine.proofs.Depths.{good_depth}
 use Rattle.refined_points.proofs.points.off_grid.Goals as goal
 use Rattle.refined_points.proofs.points.off_grid.Goals.{Start}
 
 depth : (c : Start) → Depth c.args.steps.w c.args.steps.h c.args.steps.k
-depth c = good_depth c.args.steps.w c.args.steps.h c.args.steps.k c.args.steps.sized c.args.steps.shallow
+depth c = c.args.steps.depth
 
 pub overflow_sub-side_after : goal.overflow_sub-side_after
 overflow_sub-side_after c =

@@ -2,4 +2,4 @@
 use Rattle.steps.proofs.steps.+refine_steps.Given as goal
 
 abbrev pub decreases-refine_steps : goal.decreases-refine_steps
-decreases-refine_steps l = l.k
+decreases-refine_steps l = l.steps.k
