@@ -61,7 +61,8 @@ pub fn number_beyond(z: i32) -> bool
 }
 
 // Whether one of the numbers is above a limit in size, the net's, the details', 2 to the power 25, or one below. No
-// early return: the compiler tests several at once, and a vertex's nine numbers without a branch.
+// early return: the compiler tests several at once, and a vertex's nine numbers without a branch. Also for `details`,
+// `split` and `merge`, whose limits are constants.
 pub fn any_outside(numbers: &[i32], limit: u32) -> bool
     requires { limit ≤ 33554432 }
     ensures { result ≡ any_outside limit numbers.now }

@@ -61,7 +61,8 @@ pub fn kept_triangle(a: [[i32; 3]; 3]) -> [[i32; 3]; 3]
     [c1, c2, c3]
 }
 
-// That of a vertex that halves an edge, along e1, e2 or e3 as KIND is 1, 2 or 3, from A and B, the edge's two ends.
+// That of a vertex that halves an edge, along e1, e2 or e3 as KIND is 1, 2 or 3, from A and B, the edge's two ends. For
+// `steps`, whose nets are accepted.
 pub fn edge_triangle<const KIND: usize>(a: [[i32; 3]; 3], b: [[i32; 3]; 3]) -> [[i32; 3]; 3]
     requires { (1 ≤ KIND) × (KIND < 4) × ControlsWithin net_limit a × ControlsWithin net_limit b }
     ensures { result ≡ refined_triangle weights KIND a b }

@@ -67,7 +67,8 @@ fn last_step(net: &[i32], steps: Steps, out: &mut [i32])
 }
 
 // The k times refined net over the front of `out`. The net after k - 1 steps goes into `scratch`, with `out` for its
-// scratch: so the slices change places at each step, and the last one writes `out`.
+// scratch: so the slices change places at each step, and the last one writes `out`. For `refine` and `refined_points`,
+// which have refused every other net and length.
 pub fn refine_steps(net: &[i32], steps: Steps, out: &mut [i32], scratch: &mut [i32])
     requires { AcceptedNet net.now steps.w steps.h × (numbers_after steps.k steps.w steps.h ≤ length out.old)
         × (scratch_need steps.k steps.w steps.h ≤ length scratch.old) }
