@@ -44,7 +44,7 @@ module _ (net : List ℤ) (w h : ℕ) (coarse details out : List ℤ) where
   Split = SplitContract net w h (too_short_for w h (length out)) coarse details
 
   -- the same, where the code has found whether the output of the whole is too short
-  known : {b : Bool} {r : Result (Unit {0}) Refusal} {coarse' details' : List ℤ} → b ≡ too_short_for w h (length out) →
+  pub known : {b : Bool} {r : Result (Unit {0}) Refusal} {coarse' details' : List ℤ} → b ≡ too_short_for w h (length out) →
       SplitContract net w h b coarse details r coarse' details' → Split r coarse' details'
   known {b} {r} {coarse'} {details'} e k = subst (λ (x : Bool). SplitContract net w h x coarse details r coarse' details') e k
 
@@ -113,7 +113,7 @@ module _ (net : List ℤ) (w h : ℕ) (coarse details out : List ℤ) where
     abbrev pub first_faults : List Fault
     first_faults = odd_faults w h ++ (too_great t, 12) ∷ []
 
-    abbrev First : Type 0
+    abbrev pub First : Type 0
     First = Clear first_faults
 
     first_clear : 0 ≡ first_fault first_faults → First
