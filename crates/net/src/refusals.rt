@@ -3,7 +3,7 @@ ghost use Rattle.std.specs.Prelude.{◌≡◌};
 ghost use Rattle.net.specs.Results.{refusal_number};
 
 // The rows of document 01's table "Turned away" and, from 13 on, those of document 02, a and c, under the names of
-// include/ups.h; 11 is `ResultRange`, since `Result` is the library's.
+// include/ups.h, but for 11, UPS_RESULT there.
 #[derive(Clone, Copy)]
 pub enum Refusal {
     Size = 1,
